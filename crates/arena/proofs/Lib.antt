@@ -1,0 +1,3 @@
+pub mod Pooling
+pub mod Filling
+pub mod Shelving

@@ -1,0 +1,4 @@
+pub mod Pools
+pub mod Placed
+pub mod Shelves
+pub mod Recorded
