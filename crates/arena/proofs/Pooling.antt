@@ -13,7 +13,7 @@ use borrow.Author.Tests.{eq-eqb}
 use Rattle.std.specs.shelf.Lists.{sumBy, All}
 use Rattle.std.proofs.shelf.Lists.{getD-past, getD-set-same, getD-set-other, getD-take, getD-push, getD-append-left, getD-replicate, length-set, length-push, length-take-le, length-replicate}
 use Rattle.std.proofs.shelf.Sums.{sumBy-set, sumBy-le, sumBy-cons}
-use Rattle.std.proofs.shelf.Tests.{cases-eq, cases-lt, eqb-true, ne-eqb, and-parts}
+use Rattle.std.proofs.shelf.Tests.{cases-eq, cases-lt, eqb-true, eqb-false, ne-eqb, and-parts}
 use Rattle.arena.specs.declared.handle.Handle.{Handle}
 use Rattle.arena.specs.declared.slot.Slot.{Slot}
 use Rattle.arena.specs.declared.slot.State.{State}
@@ -206,6 +206,20 @@ next-vacant p s h = ready p s h .vacant
 pub take-sound : (p : Pool) → Sound p → 0 < room p → Sound (take-place p)
 unfolding take-place
 take-sound p s h = take-at-sound p (next-place p) _ s (ready p s h)
+
+-- one place fewer is left
+room-by : (p : Pool) (b : Bool) → Sound p → 0 < room p → eqb (length (p .freed)) 0 ≡ b
+    → (length (p .freed) - 1) + (length (p .slots) - cond b (p .fresh + 1) (p .fresh)) + 1 ≡ room p
+room-by p true s h e = let z = eqb-true _ _ e in let w = s .within in omega arith
+room-by p false s h e = let z = eqb-false _ _ e in omega arith
+
+pub room-take : (p : Pool) → Sound p → 0 < room p → room (take-place p) + 1 ≡ room p
+unfolding take-place
+room-take p s h =
+    let l = short p in
+    let n = length-set (p .slots) (next-place p) (record { version = slot-at p (next-place p) .version; state = Live }) in
+    let r = room-by p (eqb (length (p .freed)) 0) s h refl in
+    omega arith
 
 -- The count of takings is far from the largest number of 64 bits.
 

@@ -151,6 +151,19 @@ module _ {T : Type 0} where
     others = enter-others a x s h;
   }
 
+  -- a making keeps every live handle live, and what it names
+  pub enter-live : (a : Shelf T) (x : T) → Sound (a .pool) → 0 < room (a .pool) → (k : Handle) → live (a .pool) k ≡ true → live (entered x a .pool) k ≡ true
+  enter-live a x s h k e =
+      ⊎-elim
+      (λ (z : k .place ≡ next-place (a .pool)). let f = vacant-next (a .pool) k s h z in let q : _≡_ {A = ℕ} 0 1 = cc in absurd (omega arith))
+      (λ (o : k .place ≡ next-place (a .pool) → ⊥). ap (λ (y : Slot). live-slot y (k .version)) (take-other (a .pool) (k .place) o) ∙ e)
+      (cases-eq (k .place) (next-place (a .pool)))
+
+  pub enter-keeps : (a : Shelf T) (x : T) → Sound (a .pool) → 0 < room (a .pool) → (k : Handle) → live (a .pool) k ≡ true → at (entered x a) k ≡ at a k
+  enter-keeps a x s h k e =
+      enter-others a x s h k
+      (λ z. let f = vacant-next (a .pool) k s h (ap (λ (j : Handle). j .place) z) in let q : _≡_ {A = ℕ} 0 1 = cc in omega arith)
+
   end-only : (a : Shelf T) (h : Handle) → live (a .pool) h ≡ true → Only (at a) (at (ended h a)) h None
   end-only a h e = record {
     here = at-dead (ended h a) h (dead-slot (slot-at (free-place h (a .pool)) (h .place)) (h .version) (ap (λ (y : Slot). is-live (y .state)) (free-here h (a .pool) e) ∙ raised-dead (h .version) _));
@@ -164,6 +177,10 @@ module _ {T : Type 0} where
       (λ (o : k .place ≡ h .place → ⊥). same-at a (ended h a) k (free-other h (a .pool) (k .place) o) refl)
       (cases-eq (k .place) (h .place));
   }
+
+  -- what always holds of the places of an arena
+  pub sound-shelf : (a : Arena T) → Sound (shelf a .pool)
+  sound-shelf a = sound (a .places)
 
   -- A making and an end, from what the code leaves.
 
@@ -211,3 +228,29 @@ module _ {T : Type 0} where
       let n = live-within (pool (a .places)) h e in
       let l = records-long a in
       sym (at-live (shelf a) h e ∙ item-read (vec-items (a .records)) (h .place) x (omega arith) r)
+
+  -- a making keeps the table's length
+  pub entered-long : (a b : Arena T) (x : T) → shelf b ≡ entered x (shelf a) → vec-len (b .records) ≡ vec-len (a .records)
+  entered-long a b x e =
+      b .records .ok .0 ∙ ap (λ (c : Shelf T). length (c .records)) e ∙ length-set (vec-items (a .records)) (next-place (pool (a .places))) x ∙ sym (a .records .ok .0)
+
+  -- a record that is changed in place: the live handle that names it, and no other, names the new one
+  pub changed-only : (a b : Shelf T) (h : Handle) (y : T) → live (a .pool) h ≡ true → h .place < length (a .records) → b .pool ≡ a .pool → b .records ≡ set (a .records) (h .place) y
+      → Only (at a) (at b) h (Some y)
+  changed-only a b h y e lt p r =
+      let c : Shelf T = record { pool = a .pool; records = set (a .records) (h .place) y } in
+      let is : b ≡ c = ap (λ (q : Pool). record { pool = q; records = b .records }) p ∙ ap (λ (xs : List T). record { pool = a .pool; records = xs }) r in
+      subst (λ (d : Shelf T). Only (at a) (at d) h (Some y)) (sym is)
+      (record {
+        here = at-live c h e ∙ item-here (a .records) (h .place) y lt;
+        others = λ k ne.
+          ⊎-elim
+          (λ (z : k .place ≡ h .place).
+            let dead = other-version (a .pool) k (h .version) (ap (λ (n : ℕ). slot-at (a .pool) n .version) z ∙ live-parts (a .pool) h e .1) (λ v. ne (same-handle k h z v)) in
+            both-dead a c k dead dead)
+          (λ (o : k .place ≡ h .place → ⊥). same-at a c k refl (item-other (a .records) (h .place) (k .place) y o))
+          (cases-eq (k .place) (h .place));
+      })
+
+  pub live-items : (a : Arena T) (h : Handle) → live (shelf a .pool) h ≡ true → h .place < length (shelf a .records)
+  live-items a h e = let n = live-within (pool (a .places)) h e in let l = records-long a in omega arith

@@ -1,0 +1,4 @@
+pub mod Shapes
+pub mod Models
+pub mod Makings
+pub mod Calls
