@@ -399,7 +399,7 @@ freed-fits p h s e =
 
 -- Places none of which was ever taken.
 
-unused-at : (n k : ℕ) → getD (replicate n unused) k unused ≡ unused
+pub unused-at : (n k : ℕ) → getD (replicate n unused) k unused ≡ unused
 unused-at zero k = refl
 unused-at (suc n) zero = refl
 unused-at (suc n) (suc k) = unused-at n k

@@ -142,7 +142,7 @@ module _ {T : Type 0} where
         same-at a (entered x a) k (take-other (a .pool) (k .place) o) (item-other (a .records) (next-place (a .pool)) (k .place) x o))
       (cases-eq (k .place) (next-place (a .pool)))
 
-  enter-only : (a : Shelf T) (x : T) → Sound (a .pool) → 0 < room (a .pool) → length (a .records) ≡ length (a .pool .slots)
+  pub enter-only : (a : Shelf T) (x : T) → Sound (a .pool) → 0 < room (a .pool) → length (a .records) ≡ length (a .pool .slots)
       → Only (at a) (at (entered x a)) (next (a .pool)) (Some x)
   enter-only a x s h l = record {
     here =
@@ -164,6 +164,21 @@ module _ {T : Type 0} where
       enter-others a x s h k
       (λ z. let f = vacant-next (a .pool) k s h (ap (λ (j : Handle). j .place) z) in let q : _≡_ {A = ℕ} 0 1 = cc in omega arith)
 
+  -- what holds of every record named, and of the one that changed, holds of every record named after
+  pub only-all : (f g : Handle → Option T) (h : Handle) (x : T) (P : T → Type 0) → Only f g h (Some x) → P x → ((k : Handle) (y : T) → f k ≡ Some y → P y) → (k : Handle) (y : T) → g k ≡ Some y → P y
+  only-all f g h x P only new old k y e =
+      ⊎-elim
+      (λ (p : k .place ≡ h .place).
+        ⊎-elim
+        (λ (v : k .version ≡ h .version).
+          let z : Some y ≡ Some x = sym e ∙ ap g (same-handle k h p v) ∙ only .here in
+          let q : x ≡ y = cc in
+          subst P q new)
+        (λ (v : k .version ≡ h .version → ⊥). old k y (sym (only .others k (λ z. v (ap (λ (j : Handle). j .version) z))) ∙ e))
+        (cases-eq (k .version) (h .version)))
+      (λ (p : k .place ≡ h .place → ⊥). old k y (sym (only .others k (λ z. p (ap (λ (j : Handle). j .place) z))) ∙ e))
+      (cases-eq (k .place) (h .place))
+
   end-only : (a : Shelf T) (h : Handle) → live (a .pool) h ≡ true → Only (at a) (at (ended h a)) h None
   end-only a h e = record {
     here = at-dead (ended h a) h (dead-slot (slot-at (free-place h (a .pool)) (h .place)) (h .version) (ap (λ (y : Slot). is-live (y .state)) (free-here h (a .pool) e) ∙ raised-dead (h .version) _));
@@ -178,14 +193,14 @@ module _ {T : Type 0} where
       (cases-eq (k .place) (h .place));
   }
 
+  pub shelf-long : (a : Arena T) → length (shelf a .records) ≡ length (shelf a .pool .slots)
+  shelf-long a = sym (a .records .ok .0) ∙ a .long ∙ a .places .slots .ok .0
+
   -- what always holds of the places of an arena
   pub sound-shelf : (a : Arena T) → Sound (shelf a .pool)
   sound-shelf a = sound (a .places)
 
   -- A making and an end, from what the code leaves.
-
-  records-long : (a : Arena T) → length (vec-items (a .records)) ≡ length (pool (a .places) .slots)
-  records-long a = sym (a .records .ok .0) ∙ a .long ∙ a .places .slots .ok .0
 
   pub made-by : (a b : Arena T) (x : T) (h : Handle) → 0 < room (pool (a .places)) → h ≡ next (pool (a .places)) → pool (b .places) ≡ take-place (pool (a .places))
       → vec-items (b .records) ≡ set (vec-items (a .records)) (h .place) x → Entered a x h b
@@ -194,7 +209,7 @@ module _ {T : Type 0} where
             = ap (λ (p : Pool). record { pool = p; records = vec-items (b .records) }) places
               ∙ ap (λ (xs : List T). record { pool = take-place (pool (a .places)); records = xs }) (records ∙ ap (λ (k : Handle). set (vec-items (a .records)) (k .place) x) given) in
       let s = sound (a .places) in
-      let only = enter-only (shelf a) x s left (records-long a) in
+      let only = enter-only (shelf a) x s left (shelf-long a) in
       record {
         left = left;
         given = given;
@@ -212,13 +227,13 @@ module _ {T : Type 0} where
 
   -- a live handle's place lies within the records
   pub live-records : (a : Arena T) (h : Handle) → live (shelf a .pool) h ≡ true → h .place < vec-len (a .records)
-  live-records a h e = let n = live-within (pool (a .places)) h e in let l = records-long a in let m = a .records .ok .0 in omega arith
+  live-records a h e = let n = live-within (pool (a .places)) h e in let l = shelf-long a in let m = a .records .ok .0 in omega arith
 
   pub next-records : (a : Arena T) (h : Handle) → 0 < room (shelf a .pool) → h ≡ next (shelf a .pool) → h .place < vec-len (a .records)
   next-records a h r e =
       let n = next-within (pool (a .places)) (sound (a .places)) r in
       let p : h .place ≡ next-place (pool (a .places)) = ap (λ (k : Handle). k .place) e in
-      let l = records-long a in
+      let l = shelf-long a in
       let m = a .records .ok .0 in
       omega arith
 
@@ -226,7 +241,7 @@ module _ {T : Type 0} where
   pub read-at : (a : Arena T) (h : Handle) (x : T) → live (shelf a .pool) h ≡ true → x ≡ getD (vec-items (a .records)) (h .place) x → Some x ≡ at (shelf a) h
   read-at a h x e r =
       let n = live-within (pool (a .places)) h e in
-      let l = records-long a in
+      let l = shelf-long a in
       sym (at-live (shelf a) h e ∙ item-read (vec-items (a .records)) (h .place) x (omega arith) r)
 
   -- a making keeps the table's length
@@ -253,4 +268,4 @@ module _ {T : Type 0} where
       })
 
   pub live-items : (a : Arena T) (h : Handle) → live (shelf a .pool) h ≡ true → h .place < length (shelf a .records)
-  live-items a h e = let n = live-within (pool (a .places)) h e in let l = records-long a in omega arith
+  live-items a h e = let n = live-within (pool (a .places)) h e in let l = shelf-long a in omega arith

@@ -1,2 +1,3 @@
 pub mod Regions
 pub mod Made
+pub mod Sums

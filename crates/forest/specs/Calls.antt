@@ -3,7 +3,6 @@ use mathlib.Core.Path.{_≡_}
 use mathlib.Core.Bool.{Bool, true, false}
 use mathlib.Core.List.{List, [], _∷_}
 use Prim.Native.Nat.{ℕ, _<_, _≤_}
-use Rattle.std.specs.Options.{mapped}
 use Rattle.std.specs.declared.option.Option.{Option}
 use Rattle.std.specs.declared.option.Option.the-variants.{Some, None}
 use Rattle.arena.specs.Pools.{room, live, unused-pool}
@@ -63,13 +62,14 @@ noted note o = record {
 
 -- a note set: the operation has it, and all else stays, in this table and in the others
 pub record Noted (f : Forest) (op : OpPtr) (note : ℕ) (t : Forest) : Type 0 where
-  pub was : live (model f .operations .pool) (op .handle) ≡ true
+  pub old : Operation
+  pub was : operation-at (model f) op ≡ Some old
   pub places : model t .operations .pool ≡ model f .operations .pool
-  pub only : Only (at (model f .operations)) (at (model t .operations)) (op .handle) (mapped (noted note) (operation-at (model f) op))
+  pub only : Only (at (model f .operations)) (at (model t .operations)) (op .handle) (Some (noted note old))
   pub blocks : model t .blocks ≡ model f .blocks
   pub regions : model t .regions ≡ model f .regions
 
 -- a dead handle is not noted, and all stays
 abbrev pub Notes : Forest → OpPtr → ℕ → Bool → Forest → Type 0
 Notes f op note true t = Noted f op note t
-Notes f op note false t = (live (model f .operations .pool) (op .handle) ≡ false) × (t ≡ f)
+Notes f op note false t = (operation-at (model f) op ≡ None) × (t ≡ f)

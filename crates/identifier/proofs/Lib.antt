@@ -1,0 +1,3 @@
+mod Keys
+pub mod Padded
+mod Steps

@@ -1,0 +1,3 @@
+mod Holding
+mod Numbering
+mod Standing

@@ -1,0 +1,34 @@
+// The map from names to numbers: the calls that read it and write it, for the public calls to use.
+ghost use mathlib.Core.Path.{_≡_};
+ghost use mathlib.Core.List.{[], _∷_, _++_};
+ghost use Prim.Native.Nat.{_<_};
+ghost use lib.ListN.{length};
+ghost use Rattle.identifier.specs.Identifiers.{text};
+ghost use Rattle.names.specs.Places.{Absent};
+ghost use Rattle.names.specs.Held.{held, Finds};
+use super::names::Names;
+use identifier::Identifier;
+use identifier::IdentifierKey;
+use table::get;
+use table::insert;
+
+impl Names {
+    // The number of a name, if it is held.
+    pub(crate) fn number_of(&self, name: Identifier) -> Option<u16>
+        ensures { λ r. ⌜ Finds (now (self .entry)) name r ⌝ }
+    {
+        get(&self.entries, name)
+    }
+
+    // Adds a new name after those held, with the next number.
+    pub(crate) fn add(&mut self, name: Identifier, number: u16)
+        requires new { ⌜ Absent (held (now self)) (text name) ⌝ }
+        requires room { ⌜ length (held (now self)) < 256 ⌝ }
+        requires next { ⌜ number ≡ length (held (now self)) ⌝ }
+        ensures { λ _. ⌜ held (now (self .exit)) ≡ held (now (self .entry)) ++ text name ∷ [] ⌝ }
+    {
+        self.list.push_reserved(name);
+        // An entry is free, since no more are used than names are held.
+        let _ = insert(&mut self.entries, name, number);
+    }
+}

@@ -1,0 +1,4 @@
+pub mod Entries
+pub mod Searching
+pub mod Writing
+pub mod Laws

@@ -1,0 +1,13 @@
+// A map over a slice of entries that its holder lends at each call.
+mod entry;
+mod map;
+mod unused;
+
+pub use entry::Entry;
+pub use entry::EntryClone;
+pub use entry::Full;
+pub use entry::Key;
+pub use map::get;
+pub use map::insert;
+pub use unused::no_entries_no_keys;
+pub use unused::unused_is_probed;
