@@ -12,8 +12,8 @@ use Rattle.std.proofs.shelf.Tests.{eq-eqb, ne-eqb}
 use Rattle.arena.specs.declared.handle.Handle.{Handle}
 use Rattle.arena.specs.declared.places.Places.{Places}
 use Rattle.arena.specs.declared.slot.Slot.{Slot}
-use Rattle.arena.specs.declared.slot.State.the-variants.{Vacant, Live, Retired}
-use Rattle.arena.specs.Pools.{last-version, unused, Pool, slot-at, live-slot, live, room, next-place, next, take-place, free-place, Sound}
+use Rattle.arena.specs.declared.slot.State.the-variants.{Live}
+use Rattle.arena.specs.Pools.{last-version, unused, Pool, slot-at, live-slot, live, room, next-place, next, take-place, raised, free-place, Sound}
 use Rattle.arena.specs.Placed.{pool}
 use Rattle.arena.proofs.Pooling.{whole, next-within, taken-most, take-sound, free-sound, freed-fits, live-within, unused-sound}
 
@@ -57,18 +57,17 @@ took s h freed fresh e f g =
 pub sound-as : (p q : Pool) → p ≡ q → Sound q → ∥ Sound p ∥₁
 sound-as p q e s = ∣ subst Sound (sym e) s ∣₁
 
-freed-slots : (h : Handle) (p : Pool) (b : Bool) → eqb (h .version) last-version ≡ b
-    → free-place h p ≡ parts (set (p .slots) (h .place) (cond b (record { version = h .version; state = Retired }) (record { version = h .version + 1; state = Vacant }))) (cond b (p .freed) (p .freed ++ h .place ∷ [])) (p .fresh) (p .taken)
+-- the places after a freeing, from the freed places that the code leaves
+freed-as : (h : Handle) (p : Pool) (x : Slot) (freed : List ℕ) (b : Bool) → x ≡ raised (h .version) → eqb (h .version) last-version ≡ b → freed ≡ cond b (p .freed) (p .freed ++ h .place ∷ [])
+    → parts (set (p .slots) (h .place) x) freed (p .fresh) (p .taken) ≡ free-place h p
 unfolding free-place
-freed-slots h p b e =
-    ap (λ (c : Bool). parts (set (p .slots) (h .place) (cond c (record { version = h .version; state = Retired }) (record { version = h .version + 1; state = Vacant }))) (cond c (p .freed) (p .freed ++ h .place ∷ [])) (p .fresh) (p .taken)) e
+freed-as h p x freed b e z f =
+    four parts (ap (set (p .slots) (h .place)) e) (f ∙ ap (λ (c : Bool). cond c (p .freed) (p .freed ++ h .place ∷ [])) (sym z)) refl refl
 
--- the places after a freeing at the last version, and at any other
-pub retired-is : (h : Handle) (p : Pool) → h .version ≡ last-version → free-place h p ≡ parts (set (p .slots) (h .place) (record { version = h .version; state = Retired })) (p .freed) (p .fresh) (p .taken)
-retired-is h p e = freed-slots h p true (eq-eqb _ _ e)
-
-renewed-is : (h : Handle) (p : Pool) → (h .version ≡ last-version → ⊥) → free-place h p ≡ parts (set (p .slots) (h .place) (record { version = h .version + 1; state = Vacant })) (p .freed ++ h .place ∷ []) (p .fresh) (p .taken)
-renewed-is h p e = freed-slots h p false (ne-eqb _ _ e)
+-- at the last version no place comes back
+pub retired : (s : Places) (h : Handle) (x : Slot) → x ≡ raised (h .version) → h .version ≡ last-version
+    → parts (set (vec-items (s .slots)) (h .place) x) (vec-items (s .freed)) (s .fresh) (s .taken) ≡ free-place h (pool s)
+retired s h x e v = freed-as h (pool s) x (vec-items (s .freed)) true e (eq-eqb _ _ v) refl
 
 -- where the next place is, in the vector's own length
 pub next-in : (s : Places) → 0 < room (pool s) → next-place (pool s) < vec-len (s .slots)
@@ -89,13 +88,13 @@ push-fits s h e =
 pub count-fits : (s : Places) → s .taken ≤ 281474976710655
 count-fits s = let l = long s in let f = s .few in taken-most (pool s) (sound s) (omega arith)
 
--- the places after a freeing, from what the push leaves
-pub renewed : (s : Places) (h : Handle) (freed : List ℕ) (pushed : Bool) → live (pool s) h ≡ true → (h .version ≡ last-version → ⊥)
+-- at any other version the place comes back, and the push needs no memory
+pub renewed : (s : Places) (h : Handle) (x : Slot) (freed : List ℕ) (pushed : Bool) → x ≡ raised (h .version) → live (pool s) h ≡ true → (h .version ≡ last-version → ⊥)
     → (vec-len (s .freed) < vec-cap (s .freed) → pushed ≡ true) → freed ≡ cond pushed (vec-items (s .freed) ++ h .place ∷ []) (vec-items (s .freed))
-    → parts (set (vec-items (s .slots)) (h .place) (record { version = h .version + 1; state = Vacant })) freed (s .fresh) (s .taken) ≡ free-place h (pool s)
-renewed s h freed pushed e ne ok items =
-    four parts refl (items ∙ ap (λ (b : Bool). cond b (vec-items (s .freed) ++ h .place ∷ []) (vec-items (s .freed))) (ok (push-fits s h e))) refl refl
-    ∙ sym (renewed-is h (pool s) ne)
+    → parts (set (vec-items (s .slots)) (h .place) x) freed (s .fresh) (s .taken) ≡ free-place h (pool s)
+renewed s h x freed pushed e l ne ok items =
+    freed-as h (pool s) x freed false e (ne-eqb _ _ ne)
+    (items ∙ ap (λ (b : Bool). cond b (vec-items (s .freed) ++ h .place ∷ []) (vec-items (s .freed))) (ok (push-fits s h l)))
 
 -- the handle of the next place, from the slot that was read there
 pub next-is : (s : Places) (n : ℕ) (x : Slot) → 0 < room (pool s) → n ≡ next-place (pool s) → x ≡ getD (vec-items (s .slots)) n x → _≡_ {A = Handle} (record { place = n; version = x .version }) (next (pool s))

@@ -2,7 +2,7 @@
 ghost use mathlib.Core.Path.{_≡_};
 ghost use Prim.Native.Nat.{_<_, _≤_};
 ghost use Rattle.std.specs.Vec.{made};
-ghost use Rattle.arena.specs.Pools.{live, next-place, room, take-place, unused-pool};
+ghost use Rattle.arena.specs.Pools.{live, next-place, raised, room, take-place, unused-pool};
 ghost use Rattle.arena.specs.Placed.{pool, Next, Taken, Released};
 use crate::handle::Handle;
 use crate::places::Places;
@@ -10,6 +10,16 @@ use crate::slot::Slot;
 use crate::slot::State;
 use std::alloc::AllocError;
 use std::alloc::Global;
+
+// A place after it was freed at this version.
+fn raised(version: u32) -> Slot
+    ensures { λ r. ⌜ r ≡ raised version ⌝ }
+{
+    if version == u32::MAX {
+        return Slot { version, state: State::Retired };
+    }
+    Slot { version: version + 1, state: State::Vacant }
+}
 
 impl Places {
     // `size` places, none of which was ever taken.
@@ -101,11 +111,10 @@ impl Places {
         if !self.is_live(h) {
             return false;
         }
+        self.slots[h.place] = raised(h.version);
         if h.version == u32::MAX {
-            self.slots[h.place] = Slot { version: h.version, state: State::Retired };
             return true;
         }
-        self.slots[h.place] = Slot { version: h.version + 1, state: State::Vacant };
         let _ = self.freed.push(h.place);
         true
     }

@@ -25,8 +25,9 @@ use Rattle.result.specs.declared.refusal.Refusal.{Refusal}
 use Rattle.result.specs.declared.refusal.Refusal.the-variants.{NamesFull, RecordsFull}
 use Rattle.result.specs.Rows.{NoRow, Uppermost}
 use Rattle.ir.specs.declared.context.Context.{Context}
+use Rattle.ir.specs.declared.making.Admitted.{Admitted}
 use Rattle.ir.specs.Calls.{Holding, Malformed, NoNumber, Numbered, OperationMade, TooFew, given, make-operation-rows}
-use Rattle.ir.specs.Steps.{Full, NumberGiven, Optional, ShapedMade}
+use Rattle.ir.specs.Steps.{AdmittedFor, AdmittedMade, Full, NumberGiven, Optional}
 use Rattle.ir.specs.Stores.{names, nodes}
 
 clash : true ≡ false → ⊥
@@ -81,20 +82,22 @@ module _ (s : Context) (kind regions : ℕ) (name : List ℕ) (shape : Shape) (i
   records-full e z f r =
       inr (p .shaped .0, inr (long, inr (malformed, inr (has-number (names s) name id (p .optional) f, inl (z, too-few s kind regions shape (p .shaped .1) (p .shaped .2) r)))))
 
-  pub none-fits : (Full (names s) id → ⊥) → Roomy (shape .kind) (shape .count) (nodes s) → NoRow (make-operation-rows s kind regions name)
-  none-fits f r =
-      (p .shaped .0, (long, (malformed, (has-number (names s) name id (p .optional) f, (enough s kind regions shape (p .shaped .1) (p .shaped .2) r, tt)))))
+module _ (s : Context) (kind regions : ℕ) (name : List ℕ) (a : Admitted) (p : AdmittedFor s kind regions name a) where
+  pub none-fits : NoRow (make-operation-rows s kind regions name)
+  none-fits =
+      (p .shaped .0,
+       (not-long name (a .name) (p .optional),
+        (not-malformed name (a .name) (p .optional),
+         (has-number (names s) name (a .name) (p .optional) (p .holds),
+          (enough s kind regions (a .shape) (p .shaped .1) (p .shaped .2) (p .roomy), tt)))))
 
-  numbered : (after : List (List ℕ)) (number : Option ℕ) → NumberGiven (names s) id number after → Numbered (names s) name number after
-  numbered after number h = numbered-by (names s) name after id number (p .optional) h
-
-  pub made-all : (r : MadeOperation) (t : Context) → ShapedMade s shape id r t → OperationMade s kind regions name r t
+  pub made-all : (r : MadeOperation) (t : Context) → AdmittedMade s a r t → OperationMade s kind regions name r t
   made-all r t m = record {
-    is = shape .kind;
+    is = a .shape .kind;
     sum = p .shaped .1;
     number = m .number;
-    named = numbered (names t) (m .number) (m .named);
-    answer = m .answer ∙ ap (λ (n : ℕ). operation-made (shape .kind) n (nodes s)) (p .shaped .2);
-    after = m .after ∙ ap (λ (n : ℕ). with-operation (shape .kind) (m .number) n (nodes s)) (p .shaped .2);
+    named = numbered-by (names s) name (names t) (a .name) (m .number) (p .optional) (m .named);
+    answer = m .answer ∙ ap (λ (n : ℕ). operation-made (a .shape .kind) n (nodes s)) (p .shaped .2);
+    after = m .after ∙ ap (λ (n : ℕ). with-operation (a .shape .kind) (m .number) n (nodes s)) (p .shaped .2);
     kept = m .kept;
   }

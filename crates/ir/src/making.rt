@@ -5,7 +5,7 @@ ghost use Rattle.std.specs.Orderings.{When};
 ghost use Rattle.forest.specs.Makings.{Roomy};
 ghost use Rattle.names.specs.Held.{held};
 ghost use Rattle.ir.specs.Calls.{Made-block, Made-operation};
-ghost use Rattle.ir.specs.Steps.{Full, NumberGiven, Optional, ShapedMade};
+ghost use Rattle.ir.specs.Steps.{Admits, AdmittedMade, Full, NumberGiven, Optional};
 ghost use Rattle.ir.specs.Stores.{Built, names, nodes};
 use crate::context::Context;
 use forest::BlockPtr;
@@ -17,6 +17,13 @@ use names::Names;
 use result::Refusal;
 use std::alloc::AllocError;
 use std::alloc::Global;
+
+// What a making that no row refuses makes.
+#[derive(Clone, Copy)]
+pub struct Admitted {
+    pub(crate) shape: Shape,
+    pub(crate) name: Option<Identifier>,
+}
 
 // The identifier of the name given, or none where no name is given.
 fn optional_name(name: &[u8]) -> Result<Option<Identifier>, Refusal>
@@ -72,23 +79,9 @@ impl Context {
         }
     }
 
-    // Holds the name, if there is one, and makes the operation; no refusal fits any more.
-    fn make_shaped(&mut self, shape: Shape, name: Option<Identifier>) -> MadeOperation
-        requires holds { ⌜ (Full (names (now self)) name → ⊥) ⌝ }
-        requires roomy { ⌜ Roomy (shape .kind) (shape .count) (nodes (now self)) ⌝ }
-        ensures { λ r. ⌜ ShapedMade (now (self .entry)) shape name r (now (self .exit)) ⌝ }
-    {
-        let number = hold_name(&mut self.names, name);
-        match self.forest.make_operation(shape, number) {
-            Some(made) => made,
-            None => unreachable(),
-        }
-    }
-
-    // Makes an operation of this kind (a sum of 1 for a table, 2 for a symbol and 4 for a terminator) with so many regions
-    // and this name; a name of no bytes is no name.
-    pub fn make_operation(&mut self, kind: u8, regions: u8, name: &[u8]) -> Result<MadeOperation, Refusal>
-        ensures { λ r. ⌜ Made-operation (now (self .entry)) kind regions (now (name .entry)) r (now (self .exit)) ⌝ }
+    // Tests the rows of a making, in their order; nothing changes.
+    fn admit(&self, kind: u8, regions: u8, name: &[u8]) -> Result<Admitted, Refusal>
+        ensures { λ r. ⌜ Admits (now (self .entry)) kind regions (now (name .entry)) r ⌝ }
     {
         let Some(shape) = Shape::new(kind, regions, name.len() > 0) else {
             return Err(Refusal::BadShape);
@@ -100,6 +93,30 @@ impl Context {
         if !self.forest.has_room(shape) {
             return Err(Refusal::RecordsFull);
         }
-        Ok(self.make_shaped(shape, identifier))
+        Ok(Admitted { shape, name: identifier })
+    }
+
+    // Holds the name, if there is one, and makes the operation.
+    fn make_admitted(&mut self, admitted: Admitted) -> MadeOperation
+        requires holds { ⌜ (Full (names (now self)) (admitted .name) → ⊥) ⌝ }
+        requires roomy { ⌜ Roomy (admitted .shape .kind) (admitted .shape .count) (nodes (now self)) ⌝ }
+        ensures { λ r. ⌜ AdmittedMade (now (self .entry)) admitted r (now (self .exit)) ⌝ }
+    {
+        let number = hold_name(&mut self.names, admitted.name);
+        match self.forest.make_operation(admitted.shape, number) {
+            Some(made) => made,
+            None => unreachable(),
+        }
+    }
+
+    // Makes an operation of this kind (a sum of 1 for a table, 2 for a symbol and 4 for a terminator) with so many regions
+    // and this name; a name of no bytes is no name.
+    pub fn make_operation(&mut self, kind: u8, regions: u8, name: &[u8]) -> Result<MadeOperation, Refusal>
+        ensures { λ r. ⌜ Made-operation (now (self .entry)) kind regions (now (name .entry)) r (now (self .exit)) ⌝ }
+    {
+        match self.admit(kind, regions, name) {
+            Err(refusal) => Err(refusal),
+            Ok(admitted) => Ok(self.make_admitted(admitted)),
+        }
     }
 }
