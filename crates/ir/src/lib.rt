@@ -2,6 +2,8 @@
 mod context;
 mod making;
 mod noting;
+#[cfg(test)]
+mod tests;
 pub use context::Context;
 pub use forest::BlockPtr;
 pub use forest::BlockPtrPartialEq;

@@ -34,7 +34,7 @@ fn optional_name(name: &[u8]) -> Result<Option<Identifier>, Refusal>
     }
     match Identifier::try_new(name) {
         Ok(identifier) => Ok(Some(identifier)),
-        Err(refusal) => Err(refusal),
+        Err(why) => Err(why),
     }
 }
 

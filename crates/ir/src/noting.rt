@@ -1,7 +1,8 @@
 // Reading operations, and setting their notes.
 ghost use mathlib.Core.Path.{_≡_};
 ghost use Rattle.ir.specs.Calls.{Kind-read, Name-read, Note-read, Note-set, Num-regions, Region-read, region-nth};
-ghost use Rattle.ir.specs.Stores.{nodes};
+ghost use Rattle.ir.specs.Stores.{names, nodes};
+ghost use lib.ListN.{length};
 use crate::context::Context;
 use forest::Kind;
 use forest::OpPtr;
@@ -93,5 +94,12 @@ impl Context {
         ensures { λ r. ⌜ r ≡ nodes (now (self .entry)) .operations .pool .taken ⌝ }
     {
         self.forest.operations_made()
+    }
+
+    // How many names are held.
+    pub fn names_held(&self) -> usize
+        ensures { λ r. ⌜ r ≡ length (names (now (self .entry))) ⌝ }
+    {
+        self.names.count()
     }
 }
