@@ -13,7 +13,7 @@ use Rattle.std.specs.declared.option.Option.the-variants.{Some, None}
 use Rattle.std.specs.declared.result.Result.{Result}
 use Rattle.std.specs.declared.result.Result.the-variants.{Ok, Err}
 use Rattle.table.specs.declared.entry.Entry.{Entry}
-use Rattle.table.specs.declared.entry.Entry.the-variants.{Free, Used}
+use Rattle.table.specs.declared.entry.Entry.the-variants.{Free}
 use Rattle.table.specs.declared.entry.Full.{Full}
 use Rattle.table.specs.Maps.{entry-at, used, Maps, Probed, Inserted, Taken}
 use Rattle.table.proofs.Entries.{not-free, used-within}

@@ -2,3 +2,8 @@ pub mod Entries
 pub mod Searching
 pub mod Writing
 pub mod Laws
+pub mod Around
+pub mod Closing
+pub mod Moving
+pub mod Nearing
+pub mod Taking

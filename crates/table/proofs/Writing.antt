@@ -2,7 +2,7 @@
 use mathlib.Core.Path.{_≡_, refl, sym, ap, subst, _∙_}
 use mathlib.Core.Logic.{⊎-elim}
 use mathlib.Core.List.{List}
-use Prim.Native.Nat.{ℕ, _+_, _<_, _≤_, _%_}
+use Prim.Native.Nat.{ℕ, _<_, _%_}
 use native.Mathlib.Omega.{arith}
 use lib.ListN.{length, set}
 use Rattle.std.proofs.shelf.Lists.{getD-set-same, getD-set-other, length-set}
@@ -11,9 +11,9 @@ use Rattle.std.specs.declared.option.Option.{Option}
 use Rattle.std.specs.declared.option.Option.the-variants.{Some, None}
 use Rattle.table.specs.declared.entry.Entry.{Entry}
 use Rattle.table.specs.declared.entry.Entry.the-variants.{Free, Used}
-use Rattle.table.specs.Maps.{entry-at, weigh, used, Before, Maps, Clear, Reached, Probed, Others, Updated, Put, Taken}
-use Rattle.table.specs.Search.{At, Vacant, Filled}
-use Rattle.table.proofs.Entries.{not-free, same-key, used-within, used-set}
+use Rattle.table.specs.Maps.{entry-at, weigh, Maps, Clear, Reached, Probed, Others, Updated, Put, Taken}
+use Rattle.table.specs.Search.{At, Vacant}
+use Rattle.table.proofs.Entries.{not-free, same-key, used-set}
 
 module _ {K V : Type 0} where
   -- a place where k may be written or taken away: no other key stands there, and k stands nowhere else
@@ -40,8 +40,8 @@ module _ {K V : Type 0} where
     here : (j : ℕ) → j ≡ i → entry-at (set es i x) j ≡ x
     here j e = ap (entry-at (set es i x)) e ∙ getD-set-same es i x Free (s .within)
 
-    there : (j : ℕ) → (j ≡ i → ⊥) → entry-at (set es i x) j ≡ entry-at es j
-    there j n = getD-set-other es i j x Free n
+    pub write-there : (j : ℕ) → (j ≡ i → ⊥) → entry-at (set es i x) j ≡ entry-at es j
+    write-there j n = getD-set-other es i j x Free n
 
     pub write-here : entry-at (set es i x) i ≡ x
     write-here = here i refl
@@ -50,10 +50,10 @@ module _ {K V : Type 0} where
     kept q None n m = λ j v e.
         ⊎-elim
         (λ (h : j ≡ i). n (mine q v (sym (here j h) ∙ e)))
-        (λ (h : j ≡ i → ⊥). m j v (sym (there j h) ∙ e))
+        (λ (h : j ≡ i → ⊥). m j v (sym (write-there j h) ∙ e))
         (cases-eq j i)
     kept q (Some v) n m =
-        (m .0, there (m .0) (λ (h : m .0 ≡ i). n (s .owner q v (ap (entry-at es) (sym h) ∙ m .1))) ∙ m .1)
+        (m .0, write-there (m .0) (λ (h : m .0 ≡ i). n (s .owner q v (ap (entry-at es) (sym h) ∙ m .1))) ∙ m .1)
 
     pub write-others : Others es (set es i x) k
     write-others = record { others = kept }
@@ -66,14 +66,14 @@ module _ {K V : Type 0} where
         (λ (hb : b ≡ i). ha ∙ sym hb)
         (λ (hb : b ≡ i → ⊥).
         let e : q ≡ k = mine q v (sym (here a ha) ∙ p) in
-        absurd (s .lone b w hb (sym (there b hb) ∙ r ∙ ap (λ (y : K). Used y w) e)))
+        absurd (s .lone b w hb (sym (write-there b hb) ∙ r ∙ ap (λ (y : K). Used y w) e)))
         (cases-eq b i))
         (λ (ha : a ≡ i → ⊥).
         ⊎-elim
         (λ (hb : b ≡ i).
         let e : q ≡ k = mine q w (sym (here b hb) ∙ r) in
-        absurd (s .lone a v ha (sym (there a ha) ∙ p ∙ ap (λ (y : K). Used y v) e)))
-        (λ (hb : b ≡ i → ⊥). old .apart a b q v w (sym (there a ha) ∙ p) (sym (there b hb) ∙ r))
+        absurd (s .lone a v ha (sym (write-there a ha) ∙ p ∙ ap (λ (y : K). Used y v) e)))
+        (λ (hb : b ≡ i → ⊥). old .apart a b q v w (sym (write-there a ha) ∙ p) (sym (write-there b hb) ∙ r))
         (cases-eq b i))
         (cases-eq a i)
 
@@ -83,7 +83,7 @@ module _ {K V : Type 0} where
       clear = λ m before free.
           ⊎-elim
           (λ (e : m ≡ i). never (sym (here m e) ∙ free))
-          (λ (e : m ≡ i → ⊥). c .clear m before (sym (there m e) ∙ free))
+          (λ (e : m ≡ i → ⊥). c .clear m before (sym (write-there m e) ∙ free))
           (cases-eq m i);
     }
 
@@ -95,7 +95,7 @@ module _ {K V : Type 0} where
           let own : k ≡ q = sym (mine q v (sym (here j h) ∙ e)) in
           let c : Clear n (hash q % n) es j = subst (λ (m : ℕ). Clear n (hash q % n) es m) (sym h) (subst (λ (y : K). Clear n (hash y % n) es i) own mine-clear) in
           still-clear n (hash q % n) j never c)
-          (λ (h : j ≡ i → ⊥). still-clear n (hash q % n) j never (old .reach j q v (sym (there j h) ∙ e)))
+          (λ (h : j ≡ i → ⊥). still-clear n (hash q % n) j never (old .reach j q v (sym (write-there j h) ∙ e)))
           (cases-eq j i);
     }
 

@@ -1,2 +1,3 @@
 pub mod Maps
 pub mod Search
+pub mod Shift

@@ -1,6 +1,5 @@
 // The entries of a map and the keys that it takes; nothing here reads or writes a map.
 ghost use mathlib.Core.Path.{_≡_};
-ghost use mathlib.Core.Bool.{true, false};
 ghost use Prim.Native.Nat.{ℕ};
 ghost use Rattle.std.specs.Orderings.{When};
 
@@ -12,7 +11,7 @@ pub enum Entry<K, V> {
 }
 
 // The refusal of a new key where every entry is used.
-#[derive(Clone, Copy)]
+#[derive(Clone, Copy, Debug)]
 pub struct Full;
 
 // Where a search found what it looked for, and what that is.

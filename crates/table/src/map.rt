@@ -2,17 +2,18 @@
 // ends at the key or at a free entry.
 ghost use mathlib.Core.Path.{_≡_};
 ghost use mathlib.Core.Bool.{true};
-ghost use Prim.Native.Nat.{ℕ, _<_, _≤_};
+ghost use Prim.Native.Nat.{_<_, _≤_, _%_};
 ghost use lib.ListN.{length};
-ghost use Rattle.std.specs.declared.option.Option.the-variants.{Some};
+ghost use Rattle.std.specs.declared.option.Option.the-variants.{Some, None};
 ghost use Rattle.std.specs.Results.{isOk};
-ghost use Rattle.table.specs.Maps.{Probed, Maps, used, Inserted, Taken};
-ghost use Rattle.table.specs.Search.{Scanned, Searched};
+ghost use Rattle.table.specs.Maps.{Probed, Maps, used, Inserted, Put, Taken};
+ghost use Rattle.table.specs.Search.{At, Each, Other, Scanned, Searched, Vacant};
 use super::entry::Entry;
 use super::entry::Full;
 use super::entry::Hit;
 use super::entry::Key;
 use super::entry::Scan;
+use super::shift::close;
 
 // The value of the key.
 pub fn get<K: Key + Copy, V: Copy>(entries: &[Entry<K, V>], key: K) -> Option<V>
@@ -37,15 +38,54 @@ pub fn insert<K: Key + Copy, V: Copy>(
 {
     match find(entries, key) {
         Scan::Found(x) => {
-            entries[x.place] = Entry::Used(key, value);
+            overwrite(entries, x, key, value);
             Ok(Some(x.value))
         }
         Scan::Stopped(f) => {
-            entries[f] = Entry::Used(key, value);
+            fill(entries, f, key, value);
             Ok(None)
         }
         Scan::Through => Err(Full),
     }
+}
+
+// Takes the key away, and answers what it had.
+pub fn remove<K: Key + Copy, V: Copy>(entries: &mut [Entry<K, V>], key: K) -> Option<V>
+    ensures { λ r. ⌜ Taken (K·Key .hashes) (now (entries .entry)) key r (now (entries .exit)) ⌝ }
+{
+    match find(entries, key) {
+        Scan::Found(x) => {
+            take_out(entries, x, key);
+            Some(x.value)
+        }
+        Scan::Stopped(_f) => None,
+        Scan::Through => None,
+    }
+}
+
+// Gives the key, which stands at `x`, another value.
+fn overwrite<K: Key + Copy, V: Copy>(entries: &mut [Entry<K, V>], x: Hit<V>, key: K, value: V)
+    requires { ⌜ At (now entries) key (x .place) (x .value) ⌝ }
+    ensures { λ _. ⌜ Put (K·Key .hashes) (now (entries .entry)) key value (Some (x .value)) (now (entries .exit)) ⌝ }
+{
+    entries[x.place] = Entry::Used(key, value);
+}
+
+// Gives the key, which has no entry yet, the free entry `f`.
+fn fill<K: Key + Copy, V: Copy>(entries: &mut [Entry<K, V>], f: usize, key: K, value: V)
+    requires { ⌜ Vacant (K·Key .hashes) (now entries) key f ⌝ }
+    ensures { λ _. ⌜ Put (K·Key .hashes) (now (entries .entry)) key value None (now (entries .exit)) ⌝ }
+{
+    entries[f] = Entry::Used(key, value);
+}
+
+// Frees the entry of the key, which stands at `x`, and closes the hole.
+fn take_out<K: Key + Copy, V: Copy>(entries: &mut [Entry<K, V>], x: Hit<V>, key: K)
+    requires { ⌜ At (now entries) key (x .place) (x .value) ⌝ }
+    ensures { λ _. ⌜ Taken (K·Key .hashes) (now (entries .entry)) key (Some (x .value)) (now (entries .exit)) ⌝ }
+{
+    entries[x.place] = Entry::Free;
+    close(entries, x.place);
 }
 
 // The key's place, or the free entry where the search for it ends: from its hash on to the end, and then from the front.
@@ -60,14 +100,24 @@ fn find<K: Key + Copy, V: Copy>(entries: &[Entry<K, V>], key: K) -> Scan<V>
     match scan(entries, key, h, n) {
         Scan::Found(x) => Scan::Found(x),
         Scan::Stopped(f) => Scan::Stopped(f),
-        Scan::Through => scan(entries, key, 0, h),
+        Scan::Through => find_from_front(entries, key, h),
     }
+}
+
+// The rest of the search for the key, where it passed every entry from its hash `h` on.
+fn find_from_front<K: Key + Copy, V: Copy>(entries: &[Entry<K, V>], key: K, h: usize) -> Scan<V>
+    requires within { ⌜ h < length (now entries) ⌝ }
+    requires home { ⌜ h ≡ K·Key .hashes key % length (now entries) ⌝ }
+    requires passed { ⌜ Each (Other key) (now entries) h (length (now entries)) ⌝ }
+    ensures { λ r. ⌜ Searched (K·Key .hashes) (now (entries .entry)) key r ⌝ }
+{
+    scan(entries, key, 0, h)
 }
 
 // The key among the entries from `from` up to `to`, of which none after a free one is looked at.
 fn scan<K: Key + Copy, V: Copy>(entries: &[Entry<K, V>], key: K, from: usize, to: usize) -> Scan<V>
     requires { ⌜ from ≤ to ⌝ ∗ ⌜ to ≤ length (now entries) ⌝ }
-    ensures { λ r. ⌜ Scanned (now (entries .entry)) key from to r ⌝ }
+    ensures { λ r. ⌜ Scanned (At (now (entries .entry)) key) (Other key) (now (entries .entry)) from to r ⌝ }
 {
     for i in from..to {
         let e = entries[i];

@@ -1,3 +1,4 @@
+// Theorems that the contracts of the map's calls hold together, each a function whose contract is the theorem.
 ghost use mathlib.Core.Path.{_≡_};
 ghost use Prim.Native.Nat.{ℕ};
 ghost use mathlib.Core.Bool.{false};
