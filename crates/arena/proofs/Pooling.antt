@@ -150,12 +150,12 @@ take-small : (p : Pool) (n fresh : ℕ) → Sound p → Ready p n fresh → (k :
 take-small p n fresh s r k =
     ⊎-elim
     (λ (e : k ≡ n).
-      let is : slot-at (take-at p n fresh) k .version ≡ slot-at p n .version
-            = ap (λ (m : ℕ). slot-at (take-at p n fresh) m .version) e ∙ ap (λ (x : Slot). x .version) (getD-set-same (p .slots) n _ unused (r .within)) in
-      let b = s .small n in omega arith)
+    let is : slot-at (take-at p n fresh) k .version ≡ slot-at p n .version
+    = ap (λ (m : ℕ). slot-at (take-at p n fresh) m .version) e ∙ ap (λ (x : Slot). x .version) (getD-set-same (p .slots) n _ unused (r .within)) in
+    let b = s .small n in omega arith)
     (λ (ne : k ≡ n → ⊥).
-      let is : slot-at (take-at p n fresh) k .version ≡ slot-at p k .version = ap (λ (x : Slot). x .version) (other-slot p n k _ ne) in
-      let b = s .small k in omega arith)
+    let is : slot-at (take-at p n fresh) k .version ≡ slot-at p k .version = ap (λ (x : Slot). x .version) (other-slot p n k _ ne) in
+    let b = s .small k in omega arith)
     (cases-eq k n)
 
 take-at-sound : (p : Pool) (n fresh : ℕ) → Sound p → Ready p n fresh → Sound (take-at p n fresh)
@@ -190,11 +190,11 @@ ready : (p : Pool) → Sound p → 0 < room p → Ready p (next-place p) (cond (
 ready p s h =
     ⊎-elim
     (λ (e : length (p .freed) ≡ 0).
-      subst (λ (b : Bool). Ready p (cond b (p .fresh) (getD (p .freed) (length (p .freed) - 1) 0)) (cond b (p .fresh + 1) (p .fresh))) (sym (eq-eqb _ _ e))
-      (ready-none p s e h))
+    subst (λ (b : Bool). Ready p (cond b (p .fresh) (getD (p .freed) (length (p .freed) - 1) 0)) (cond b (p .fresh + 1) (p .fresh))) (sym (eq-eqb _ _ e))
+    (ready-none p s e h))
     (λ (ne : length (p .freed) ≡ 0 → ⊥).
-      subst (λ (b : Bool). Ready p (cond b (p .fresh) (getD (p .freed) (length (p .freed) - 1) 0)) (cond b (p .fresh + 1) (p .fresh))) (sym (ne-eqb _ _ ne))
-      (ready-last p s ne))
+    subst (λ (b : Bool). Ready p (cond b (p .fresh) (getD (p .freed) (length (p .freed) - 1) 0)) (cond b (p .fresh + 1) (p .fresh))) (sym (ne-eqb _ _ ne))
+    (ready-last p s ne))
     (cases-eq (length (p .freed)) 0)
 
 pub next-within : (p : Pool) → Sound p → 0 < room p → next-place p < length (p .slots)
@@ -244,8 +244,8 @@ live-within p h e =
     ⊎-elim
     (λ (lt : h .place < length (p .slots)). lt)
     (λ (ge : length (p .slots) ≤ h .place).
-      let f : live-slot unused (h .version) ≡ true = ap (λ (x : Slot). live-slot x (h .version)) (sym (getD-past (p .slots) (h .place) unused ge)) ∙ e in
-      let z : _≡_ {A = ℕ} 0 1 = cc in absurd (omega arith))
+    let f : live-slot unused (h .version) ≡ true = ap (λ (x : Slot). live-slot x (h .version)) (sym (getD-past (p .slots) (h .place) unused ge)) ∙ e in
+    let z : _≡_ {A = ℕ} 0 1 = cc in absurd (omega arith))
     (cases-lt (h .place) (length (p .slots)))
 
 live-old : (p : Pool) (h : Handle) → Sound p → live p h ≡ true → h .place < p .fresh
@@ -253,9 +253,9 @@ live-old p h s e =
     ⊎-elim
     (λ (lt : h .place < p .fresh). lt)
     (λ (ge : p .fresh ≤ h .place).
-      let v = s .never (h .place) ge .vacant in
-      let f = live-full (slot-at p (h .place) .state) (live-parts p h e .0) in
-      absurd (omega arith))
+    let v = s .never (h .place) ge .vacant in
+    let f = live-full (slot-at p (h .place) .state) (live-parts p h e .0) in
+    absurd (omega arith))
     (cases-lt (h .place) (p .fresh))
 
 -- the freed places are not the live one
@@ -302,15 +302,15 @@ free-at-sound p h x freed s e end =
         vacant = ap vacancy (other-slot p (h .place) k x ne) ∙ u .vacant;
       };
       small = λ k.
-        ⊎-elim
-        (λ (z : k ≡ h .place).
+          ⊎-elim
+          (λ (z : k ≡ h .place).
           let is : slot-at (free-at p h x freed) k .version ≡ x .version
-                = ap (λ (m : ℕ). slot-at (free-at p h x freed) m .version) z ∙ ap (λ (y : Slot). y .version) (getD-set-same (p .slots) (h .place) x unused in-list) in
+          = ap (λ (m : ℕ). slot-at (free-at p h x freed) m .version) z ∙ ap (λ (y : Slot). y .version) (getD-set-same (p .slots) (h .place) x unused in-list) in
           let b = end .small in omega arith)
-        (λ (ne : k ≡ h .place → ⊥).
+          (λ (ne : k ≡ h .place → ⊥).
           let is : slot-at (free-at p h x freed) k .version ≡ slot-at p k .version = ap (λ (y : Slot). y .version) (other-slot p (h .place) k x ne) in
           let b = s .small k in omega arith)
-        (cases-eq k (h .place));
+          (cases-eq k (h .place));
       fewer = omega arith;
       counted = omega arith;
     }
@@ -345,19 +345,19 @@ pushed-apart : (p : Pool) (h : Handle) → Sound p → live p h ≡ true → (i 
 pushed-apart p h s e i j hi hj =
     pushed-cases (λ (m : ℕ). m ≡ getD (p .freed ++ h .place ∷ []) j 0 → i ≡ j) (p .freed) (h .place) i hi
     (λ li. pushed-cases (λ (m : ℕ). getD (p .freed) i 0 ≡ m → i ≡ j) (p .freed) (h .place) j hj
-      (λ lj same. s .apart i j li lj same)
-      (λ zj same. absurd (free-apart p h s e i li same)))
+    (λ lj same. s .apart i j li lj same)
+    (λ zj same. absurd (free-apart p h s e i li same)))
     (λ zi. pushed-cases (λ (m : ℕ). h .place ≡ m → i ≡ j) (p .freed) (h .place) j hj
-      (λ lj same. absurd (free-apart p h s e j lj (sym same)))
-      (λ zj same. zi ∙ sym zj))
+    (λ lj same. absurd (free-apart p h s e j lj (sym same)))
+    (λ zj same. zi ∙ sym zj))
 
 renewed : (p : Pool) (h : Handle) → Sound p → live p h ≡ true → (h .version ≡ last-version → ⊥) → Ended p h (record { version = h .version + 1; state = Vacant }) (p .freed ++ h .place ∷ [])
 renewed p h s e ne = record {
   small = let b = s .small (h .place) in let v = live-parts p h e .1 in omega arith;
   worn = refl;
   free = λ i lt. pushed-cases (λ (m : ℕ). Freed (set (p .slots) (h .place) (record { version = h .version + 1; state = Vacant })) (p .fresh) m) (p .freed) (h .place) i lt
-    (λ li. still-free p h _ s e i li)
-    (λ z. record { old = live-old p h s e; vacant = ap vacancy (getD-set-same (p .slots) (h .place) _ unused (live-within p h e)) });
+      (λ li. still-free p h _ s e i li)
+      (λ z. record { old = live-old p h s e; vacant = ap vacancy (getD-set-same (p .slots) (h .place) _ unused (live-within p h e)) });
   apart = pushed-apart p h s e;
   fewer = let l = length-push (p .freed) (h .place) in omega arith;
 }
@@ -372,9 +372,9 @@ unfolding free-place
 free-sound p h s e =
     ⊎-elim
     (λ (z : h .version ≡ last-version).
-      subst (λ (b : Bool). Sound (free-by p h b)) (sym (eq-eqb _ _ z)) (free-at-sound p h _ _ s e (retired p h s e)))
+    subst (λ (b : Bool). Sound (free-by p h b)) (sym (eq-eqb _ _ z)) (free-at-sound p h _ _ s e (retired p h s e)))
     (λ (ne : h .version ≡ last-version → ⊥).
-      subst (λ (b : Bool). Sound (free-by p h b)) (sym (ne-eqb _ _ ne)) (free-at-sound p h _ _ s e (renewed p h s e ne)))
+    subst (λ (b : Bool). Sound (free-by p h b)) (sym (ne-eqb _ _ ne)) (free-at-sound p h _ _ s e (renewed p h s e ne)))
     (cases-eq (h .version) last-version)
 
 vacancy-one : (s : State) → vacancy-of s ≤ 1

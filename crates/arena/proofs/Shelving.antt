@@ -134,20 +134,20 @@ module _ {T : Type 0} where
   enter-others a x s h k ne =
       ⊎-elim
       (λ (e : k .place ≡ next-place (a .pool)).
-        both-dead a (entered x a) k (vacant-next (a .pool) k s h e)
-        (other-version (take-place (a .pool)) k (next (a .pool) .version)
-          (ap (λ (n : ℕ). slot-at (take-place (a .pool)) n .version) e ∙ ap (λ (y : Slot). y .version) (take-here (a .pool) s h))
-          (λ v. ne (same-handle k (next (a .pool)) e v))))
+      both-dead a (entered x a) k (vacant-next (a .pool) k s h e)
+      (other-version (take-place (a .pool)) k (next (a .pool) .version)
+      (ap (λ (n : ℕ). slot-at (take-place (a .pool)) n .version) e ∙ ap (λ (y : Slot). y .version) (take-here (a .pool) s h))
+      (λ v. ne (same-handle k (next (a .pool)) e v))))
       (λ (o : k .place ≡ next-place (a .pool) → ⊥).
-        same-at a (entered x a) k (take-other (a .pool) (k .place) o) (item-other (a .records) (next-place (a .pool)) (k .place) x o))
+      same-at a (entered x a) k (take-other (a .pool) (k .place) o) (item-other (a .records) (next-place (a .pool)) (k .place) x o))
       (cases-eq (k .place) (next-place (a .pool)))
 
   pub enter-only : (a : Shelf T) (x : T) → Sound (a .pool) → 0 < room (a .pool) → length (a .records) ≡ length (a .pool .slots)
       → Only (at a) (at (entered x a)) (next (a .pool)) (Some x)
   enter-only a x s h l = record {
     here =
-      let n = next-within (a .pool) s h in
-      at-live (entered x a) (next (a .pool)) (live-made (a .pool) s h) ∙ item-here (a .records) (next-place (a .pool)) x (omega arith);
+        let n = next-within (a .pool) s h in
+        at-live (entered x a) (next (a .pool)) (live-made (a .pool) s h) ∙ item-here (a .records) (next-place (a .pool)) x (omega arith);
     others = enter-others a x s h;
   }
 
@@ -169,13 +169,13 @@ module _ {T : Type 0} where
   only-all f g h x P only new old k y e =
       ⊎-elim
       (λ (p : k .place ≡ h .place).
-        ⊎-elim
-        (λ (v : k .version ≡ h .version).
-          let z : Some y ≡ Some x = sym e ∙ ap g (same-handle k h p v) ∙ only .here in
-          let q : x ≡ y = cc in
-          subst P q new)
-        (λ (v : k .version ≡ h .version → ⊥). old k y (sym (only .others k (λ z. v (ap (λ (j : Handle). j .version) z))) ∙ e))
-        (cases-eq (k .version) (h .version)))
+      ⊎-elim
+      (λ (v : k .version ≡ h .version).
+      let z : Some y ≡ Some x = sym e ∙ ap g (same-handle k h p v) ∙ only .here in
+      let q : x ≡ y = cc in
+      subst P q new)
+      (λ (v : k .version ≡ h .version → ⊥). old k y (sym (only .others k (λ z. v (ap (λ (j : Handle). j .version) z))) ∙ e))
+      (cases-eq (k .version) (h .version)))
       (λ (p : k .place ≡ h .place → ⊥). old k y (sym (only .others k (λ z. p (ap (λ (j : Handle). j .place) z))) ∙ e))
       (cases-eq (k .place) (h .place))
 
@@ -183,14 +183,14 @@ module _ {T : Type 0} where
   end-only a h e = record {
     here = at-dead (ended h a) h (dead-slot (slot-at (free-place h (a .pool)) (h .place)) (h .version) (ap (λ (y : Slot). is-live (y .state)) (free-here h (a .pool) e) ∙ raised-dead (h .version) _));
     others = λ k ne.
-      ⊎-elim
-      (λ (z : k .place ≡ h .place).
+        ⊎-elim
+        (λ (z : k .place ≡ h .place).
         both-dead a (ended h a) k
         (other-version (a .pool) k (h .version) (ap (λ (n : ℕ). slot-at (a .pool) n .version) z ∙ live-parts (a .pool) h e .1) (λ v. ne (same-handle k h z v)))
         (dead-slot (slot-at (free-place h (a .pool)) (k .place)) (k .version)
-          (ap (λ (n : ℕ). is-live (slot-at (free-place h (a .pool)) n .state)) z ∙ ap (λ (y : Slot). is-live (y .state)) (free-here h (a .pool) e) ∙ raised-dead (h .version) _)))
-      (λ (o : k .place ≡ h .place → ⊥). same-at a (ended h a) k (free-other h (a .pool) (k .place) o) refl)
-      (cases-eq (k .place) (h .place));
+        (ap (λ (n : ℕ). is-live (slot-at (free-place h (a .pool)) n .state)) z ∙ ap (λ (y : Slot). is-live (y .state)) (free-here h (a .pool) e) ∙ raised-dead (h .version) _)))
+        (λ (o : k .place ≡ h .place → ⊥). same-at a (ended h a) k (free-other h (a .pool) (k .place) o) refl)
+        (cases-eq (k .place) (h .place));
   }
 
   pub shelf-long : (a : Arena T) → length (shelf a .records) ≡ length (shelf a .pool .slots)
@@ -206,8 +206,8 @@ module _ {T : Type 0} where
       → vec-items (b .records) ≡ set (vec-items (a .records)) (h .place) x → Entered a x h b
   made-by a b x h left given places records =
       let after : shelf b ≡ entered x (shelf a)
-            = ap (λ (p : Pool). record { pool = p; records = vec-items (b .records) }) places
-              ∙ ap (λ (xs : List T). record { pool = take-place (pool (a .places)); records = xs }) (records ∙ ap (λ (k : Handle). set (vec-items (a .records)) (k .place) x) given) in
+      = ap (λ (p : Pool). record { pool = p; records = vec-items (b .records) }) places
+      ∙ ap (λ (xs : List T). record { pool = take-place (pool (a .places)); records = xs }) (records ∙ ap (λ (k : Handle). set (vec-items (a .records)) (k .place) x) given) in
       let s = sound (a .places) in
       let only = enter-only (shelf a) x s left (shelf-long a) in
       record {
@@ -221,8 +221,8 @@ module _ {T : Type 0} where
   pub ended-by : (a b : Arena T) (h : Handle) → live (pool (a .places)) h ≡ true → pool (b .places) ≡ free-place h (pool (a .places)) → vec-items (b .records) ≡ vec-items (a .records) → Ended a h b
   ended-by a b h was places records =
       let after : shelf b ≡ ended h (shelf a)
-            = ap (λ (p : Pool). record { pool = p; records = vec-items (b .records) }) places
-              ∙ ap (λ (xs : List T). record { pool = free-place h (pool (a .places)); records = xs }) records in
+      = ap (λ (p : Pool). record { pool = p; records = vec-items (b .records) }) places
+      ∙ ap (λ (xs : List T). record { pool = free-place h (pool (a .places)); records = xs }) records in
       record { was = was; after = after; only = subst (λ (c : Shelf T). Only (at (shelf a)) (at c) h None) (sym after) (end-only (shelf a) h was) }
 
   -- a live handle's place lies within the records
@@ -259,12 +259,12 @@ module _ {T : Type 0} where
       (record {
         here = at-live c h e ∙ item-here (a .records) (h .place) y lt;
         others = λ k ne.
-          ⊎-elim
-          (λ (z : k .place ≡ h .place).
+            ⊎-elim
+            (λ (z : k .place ≡ h .place).
             let dead = other-version (a .pool) k (h .version) (ap (λ (n : ℕ). slot-at (a .pool) n .version) z ∙ live-parts (a .pool) h e .1) (λ v. ne (same-handle k h z v)) in
             both-dead a c k dead dead)
-          (λ (o : k .place ≡ h .place → ⊥). same-at a c k refl (item-other (a .records) (h .place) (k .place) y o))
-          (cases-eq (k .place) (h .place));
+            (λ (o : k .place ≡ h .place → ⊥). same-at a c k refl (item-other (a .records) (h .place) (k .place) y o))
+            (cases-eq (k .place) (h .place));
       })
 
   pub live-items : (a : Arena T) (h : Handle) → live (shelf a .pool) h ≡ true → h .place < length (shelf a .records)

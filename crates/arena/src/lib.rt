@@ -5,6 +5,7 @@ mod places;
 mod placing;
 mod recording;
 mod slot;
+
 pub use arena::Arena;
 pub use handle::Handle;
 pub use handle::HandlePartialEq;

@@ -16,9 +16,15 @@ fn raised(version: u32) -> Slot
     ensures { λ r. ⌜ r ≡ raised version ⌝ }
 {
     if version == u32::MAX {
-        return Slot { version, state: State::Retired };
+        return Slot {
+            version,
+            state: State::Retired,
+        };
     }
-    Slot { version: version + 1, state: State::Vacant }
+    Slot {
+        version: version + 1,
+        state: State::Vacant,
+    }
 }
 
 impl Places {
@@ -26,9 +32,17 @@ impl Places {
     pub fn new(heap: Global, size: u16) -> Result<Places, AllocError>
         ensures { λ r. ⌜ made r (λ s. pool s ≡ unused-pool size) ⌝ }
     {
-        let slots = vec![in heap; Slot { version: 1, state: State::Vacant }; size as usize]?;
+        let slots = vec![in heap; Slot {
+            version: 1,
+            state: State::Vacant
+        }; size as usize]?;
         let freed = Vec::with_capacity(heap, size as usize)?;
-        Ok(Places { slots, freed, fresh: 0, taken: 0 })
+        Ok(Places {
+            slots,
+            freed,
+            fresh: 0,
+            taken: 0,
+        })
     }
 
     // Whether the handle's place is in use at its version.
@@ -79,7 +93,10 @@ impl Places {
         }
         let place = self.next_place();
         let slot = self.slots[place];
-        Some(Handle { place, version: slot.version })
+        Some(Handle {
+            place,
+            version: slot.version,
+        })
     }
 
     // The lowest place never used, after the next taking.
@@ -87,7 +104,11 @@ impl Places {
         requires { ⌜ 0 < room (pool (now self)) ⌝ }
         ensures { λ r. ⌜ r ≡ take-place (pool (now (self .entry))) .fresh ⌝ }
     {
-        if self.freed.is_empty() { self.fresh + 1 } else { self.fresh }
+        if self.freed.is_empty() {
+            self.fresh + 1
+        } else {
+            self.fresh
+        }
     }
 
     // Takes the place freed last, or else the lowest never used.
@@ -99,7 +120,10 @@ impl Places {
         };
         self.fresh = self.fresh_after();
         let _ = self.freed.pop();
-        self.slots[h.place] = Slot { version: h.version, state: State::Live };
+        self.slots[h.place] = Slot {
+            version: h.version,
+            state: State::Live,
+        };
         self.taken += 1;
         Some(h)
     }

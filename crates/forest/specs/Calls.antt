@@ -57,7 +57,14 @@ Makes-block f (Some r) t = BlockMade f r t
 -- the operation with another note
 abbrev pub noted : ℕ → Operation → Operation
 noted note o = record {
-  kind = o .kind; name = o .name; count = o .count; regions = o .regions; note = note; next = o .next; prev = o .prev; container = o .container;
+  kind = o .kind;
+  name = o .name;
+  count = o .count;
+  regions = o .regions;
+  note = note;
+  next = o .next;
+  prev = o .prev;
+  container = o .container;
 }
 
 -- a note set: the operation has it, and all else stays, in this table and in the others

@@ -28,9 +28,27 @@ use std::alloc::Global;
 
 // What stands at a place before it is taken.
 fn blank_operation() -> Operation {
-    let none = RegionPtr { handle: Handle { place: 0, version: 0 } };
-    let kind = Kind { table: false, symbol: false, terminator: false };
-    Operation { kind, name: None, count: 0, regions: [none; 4], note: 0, next: None, prev: None, container: None }
+    let none = RegionPtr {
+        handle: Handle {
+            place: 0,
+            version: 0,
+        },
+    };
+    let kind = Kind {
+        table: false,
+        symbol: false,
+        terminator: false,
+    };
+    Operation {
+        kind,
+        name: None,
+        count: 0,
+        regions: [none; 4],
+        note: 0,
+        next: None,
+        prev: None,
+        container: None,
+    }
 }
 
 impl Forest {
@@ -38,11 +56,41 @@ impl Forest {
     pub fn new(heap: Global) -> Result<Forest, AllocError>
         ensures { λ r. ⌜ made r (λ f. Fresh f) ⌝ }
     {
-        let none = OpPtr { handle: Handle { place: 0, version: 0 } };
+        let none = OpPtr {
+            handle: Handle {
+                place: 0,
+                version: 0,
+            },
+        };
         let operations = Arena::new(heap, blank_operation(), 512)?;
-        let blocks = Arena::new(heap, BasicBlock { head: None, tail: None, next: None, prev: None, container: None }, 256)?;
-        let regions = Arena::new(heap, Region { parent_op: none, index: 0, head: None, tail: None }, 256)?;
-        Ok(Forest { records: Records { operations, blocks, regions } })
+        let blocks = Arena::new(
+            heap,
+            BasicBlock {
+                head: None,
+                tail: None,
+                next: None,
+                prev: None,
+                container: None,
+            },
+            256,
+        )?;
+        let regions = Arena::new(
+            heap,
+            Region {
+                parent_op: none,
+                index: 0,
+                head: None,
+                tail: None,
+            },
+            256,
+        )?;
+        Ok(Forest {
+            records: Records {
+                operations,
+                blocks,
+                regions,
+            },
+        })
     }
 
     // The record of a live operation.
@@ -107,7 +155,10 @@ impl Forest {
         if !self.records.operations.is_live(op.handle) {
             return false;
         }
-        self.records.operations.records[op.handle.place].set_note(note);
+        self.records
+            .operations
+            .records[op.handle.place]
+            .set_note(note);
         true
     }
 }

@@ -11,6 +11,7 @@ mod records;
 mod region;
 mod shape;
 mod shaping;
+
 pub use basic_block::BasicBlock;
 pub use forest::Forest;
 pub use handles::BlockPtr;

@@ -44,22 +44,47 @@ fn make_in<T: Copy + Clone>(table: &mut Arena<T>, x: T) -> Handle
 }
 
 // Makes one region.
-fn make_region(table: &mut Arena<Region>, parent_op: OpPtr, body: Option<BlockPtr>, index: usize) -> RegionPtr
+fn make_region(
+    table: &mut Arena<Region>,
+    parent_op: OpPtr,
+    body: Option<BlockPtr>,
+    index: usize,
+) -> RegionPtr
     requires { ⌜ 0 < room (shelf (now table) .pool) ⌝ }
     ensures given { λ r. ⌜ r ≡ region-of (next (shelf (now (table .entry)) .pool)) ⌝ }
     ensures after { λ _. ⌜ shelf (now (table .exit)) ≡ entered (new-region «parent_op» body index) (shelf (now (table .entry))) ⌝ }
 {
-    RegionPtr { handle: make_in(table, Region { parent_op, index, head: body, tail: body }) }
+    RegionPtr {
+        handle: make_in(
+            table,
+            Region {
+                parent_op,
+                index,
+                head: body,
+                tail: body,
+            },
+        ),
+    }
 }
 
 // Makes the regions of one operation, in order.
-pub(crate) fn make_regions(table: &mut Arena<Region>, parent_op: OpPtr, body: Option<BlockPtr>, count: usize) -> [RegionPtr; 4]
+pub(crate) fn make_regions(
+    table: &mut Arena<Region>,
+    parent_op: OpPtr,
+    body: Option<BlockPtr>,
+    count: usize,
+) -> [RegionPtr; 4]
     requires few { ⌜ count ≤ 4 ⌝ }
     requires roomy { ⌜ count ≤ room (shelf (now table) .pool) ⌝ }
     ensures given { λ r. ⌜ r ≡ region-ptrs «parent_op» body count (shelf (now (table .entry))) ++ replicate (4 - count) no-region ⌝ }
     ensures after { λ _. ⌜ shelf (now (table .exit)) ≡ with-regions «parent_op» body count (shelf (now (table .entry))) ⌝ }
 {
-    let none = RegionPtr { handle: Handle { place: 0, version: 0 } };
+    let none = RegionPtr {
+        handle: Handle {
+            place: 0,
+            version: 0,
+        },
+    };
     let mut regions = [none; 4];
     'each: for i in 0..count {
         regions[i] = make_region(table, parent_op, body, i);
@@ -73,16 +98,35 @@ pub(crate) fn make_block_in(table: &mut Arena<BasicBlock>, container: Option<Reg
     ensures given { λ r. ⌜ r ≡ block-of (next (shelf (now (table .entry)) .pool)) ⌝ }
     ensures after { λ _. ⌜ shelf (now (table .exit)) ≡ entered (new-block container) (shelf (now (table .entry))) ⌝ }
 {
-    BlockPtr { handle: make_in(table, BasicBlock { head: None, tail: None, next: None, prev: None, container }) }
+    BlockPtr {
+        handle: make_in(
+            table,
+            BasicBlock {
+                head: None,
+                tail: None,
+                next: None,
+                prev: None,
+                container,
+            },
+        ),
+    }
 }
 
 // Makes the body of a table, in this region; what is no table has none.
-fn make_body(table: &mut Arena<BasicBlock>, wanted: bool, container: Option<RegionPtr>) -> Option<BlockPtr>
+fn make_body(
+    table: &mut Arena<BasicBlock>,
+    wanted: bool,
+    container: Option<RegionPtr>,
+) -> Option<BlockPtr>
     requires { ⌜ blocks-needed wanted ≤ room (shelf (now table) .pool) ⌝ }
     ensures given { λ r. ⌜ r ≡ cond wanted (Some (block-of (next (shelf (now (table .entry)) .pool)))) None ⌝ }
     ensures after { λ _. ⌜ shelf (now (table .exit)) ≡ cond wanted (entered (new-block container) (shelf (now (table .entry)))) (shelf (now (table .entry))) ⌝ }
 {
-    if wanted { Some(make_block_in(table, container)) } else { None }
+    if wanted {
+        Some(make_block_in(table, container))
+    } else {
+        None
+    }
 }
 
 // The region that is made next, if one is free.
@@ -107,7 +151,12 @@ fn next_op(table: &Arena<Operation>) -> OpPtr
 }
 
 // Makes an operation with its regions and its body, each record whole at once, where enough records are free.
-pub(crate) fn make_operation_in(records: &mut Records, kind: Kind, count: usize, name: Option<u16>) -> MadeOperation
+pub(crate) fn make_operation_in(
+    records: &mut Records,
+    kind: Kind,
+    count: usize,
+    name: Option<u16>,
+) -> MadeOperation
     requires few { ⌜ count ≤ 4 ⌝ }
     requires one { ⌜ cond (kind .table) count 1 ≡ 1 ⌝ }
     requires roomy { ⌜ Roomy kind count (tables (now records)) ⌝ }
@@ -118,9 +167,23 @@ pub(crate) fn make_operation_in(records: &mut Records, kind: Kind, count: usize,
     let region = next_region(&records.regions);
     let body = make_body(&mut records.blocks, kind.table, region);
     let regions = make_regions(&mut records.regions, operation, body, count);
-    let whole = Operation { kind, name, count, regions, note: 0, next: None, prev: None, container: None };
+    let whole = Operation {
+        kind,
+        name,
+        count,
+        regions,
+        note: 0,
+        next: None,
+        prev: None,
+        container: None,
+    };
     let _ = make_in(&mut records.operations, whole);
-    MadeOperation { operation, count, regions, body }
+    MadeOperation {
+        operation,
+        count,
+        regions,
+        body,
+    }
 }
 
 // Whether enough records are free for an operation of this kind with its regions and its body.

@@ -14,7 +14,11 @@ impl Kind {
         if sum > 7 {
             return None;
         }
-        Some(Kind { table: sum % 2 == 1, symbol: sum / 2 % 2 == 1, terminator: sum / 4 == 1 })
+        Some(Kind {
+            table: sum % 2 == 1,
+            symbol: sum / 2 % 2 == 1,
+            terminator: sum / 4 == 1,
+        })
     }
 
     // The sum that gives this kind.
@@ -42,6 +46,9 @@ impl Shape {
         if kind.table && regions != 1 {
             return None;
         }
-        Some(Shape { kind, count: regions as usize })
+        Some(Shape {
+            kind,
+            count: regions as usize,
+        })
     }
 }

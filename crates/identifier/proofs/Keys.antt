@@ -10,7 +10,7 @@ use Rattle.std.proofs.shelf.Lists.{take-all}
 use Rattle.std.proofs.shelf.Sums.{folded-more}
 use Rattle.identifier.specs.Identifiers.{text, fnv-step}
 use Rattle.identifier.specs.declared.identifier.Identifier.{Identifier}
-use Rattle.identifier.proofs.Padded.{same-text}
+use Rattle.identifier.proofs.Texts.{same-text}
 
 pub mixed : (xs ys : List ℕ) (i s h b : ℕ) → xs ≡ ys → i < length xs → b ≡ getD xs i 0 → h ≡ folded fnv-step s (take i ys) → fnv-step h b ≡ folded fnv-step s (take (i + 1) ys)
 mixed xs ys i s h b same lt byte so-far =

@@ -1,3 +1,4 @@
 mod Keys
-pub mod Padded
+mod Padded
 mod Steps
+pub mod Texts

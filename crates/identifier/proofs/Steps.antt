@@ -6,7 +6,7 @@ use Prim.Native.Nat.{ℕ, _+_, _<_, _≤_}
 use native.Mathlib.Omega.{arith}
 use lib.ListN.{length, getD, drop}
 use Rattle.std.proofs.shelf.Lists.{drop-more, drop-all}
-use Rattle.std.proofs.shelf.Tests.{and-left, and-right}
+use Rattle.std.proofs.shelf.Tests.{and-right}
 use Rattle.identifier.specs.Names.{starts, continues, continue-all, valid-name}
 
 open-step : (xs : List ℕ) (i : ℕ) → i < length xs → continue-all (drop i xs) ≡ (continues (getD xs i 0) && continue-all (drop (i + 1) xs))

@@ -2,11 +2,14 @@
 ghost use mathlib.Core.Path.{_≡_};
 ghost use Rattle.identifier.specs.Names.{class-table, code-of, class-of, starts, continues};
 
-// What a byte may do in a name: stand anywhere, stand after the first byte, or not stand there.
+// Where a byte may stand in a name.
 #[derive(Clone, Copy)]
 pub enum Class {
+    // Nowhere.
     Other,
+    // Anywhere.
     Start,
+    // After the first byte.
     Digit,
 }
 
@@ -36,6 +39,7 @@ fn classes() -> &'static [u8; 256]
     CLASSES
 }
 
+// What the table has at a byte.
 fn code(b: u8) -> u8
     ensures { λ r. ⌜ r ≡ code-of b ⌝ }
 {

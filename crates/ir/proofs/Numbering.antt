@@ -96,7 +96,7 @@ noted-held f t op note false n e h = subst (λ (g : Forest). NumbersHeld (model 
 noted-held f t op note true n e h =
     let P : Operation → Type 0 = λ o. (i : ℕ) → o .name ≡ Some i → i < n in
     let all = only-all (at (model f .operations)) (at (model t .operations)) (op .handle) (noted note (e .old)) P (e .only) (λ i q. h .number op (e .old) i (e .was) q)
-          (λ k y z i q. h .number (record { handle = k }) y i z q) in
+    (λ k y z i q. h .number (record { handle = k }) y i z q) in
     record { number = λ p o i z q. all (p .handle) o z i q }
 
 -- in a store where nothing was made no handle names an operation
@@ -106,9 +106,9 @@ unused-none n k = ap (λ (x : Slot). live-slot x (k .version)) (unused-at n (k .
 pub fresh-held : (f : Forest) (n : ℕ) → Fresh f → NumbersHeld (model f) n
 fresh-held f n fresh = record {
   number = λ op o i z q.
-    let dead : live (model f .operations .pool) (op .handle) ≡ false = ap (λ (p : Pool). live p (op .handle)) (fresh .operations) ∙ unused-none 512 (op .handle) in
-    let none = at-dead (model f .operations) (op .handle) dead in
-    let y : _≡_ {A = ℕ} 0 1 = cc in absurd (omega arith);
+      let dead : live (model f .operations .pool) (op .handle) ≡ false = ap (λ (p : Pool). live p (op .handle)) (fresh .operations) ∙ unused-none 512 (op .handle) in
+      let none = at-dead (model f .operations) (op .handle) dead in
+      let y : _≡_ {A = ℕ} 0 1 = cc in absurd (omega arith);
 }
 
 -- whether a name can be held, from whether it is found where 256 are held
@@ -125,9 +125,10 @@ pub read-name : (s : Context) (op : OpPtr) (o : Operation) (i : ℕ) (r : Option
     → NoRow (operation-rows s op) × (mapped (name-of (names s)) (operation-at (nodes s) op) ≡ Some (mapped text r))
 read-name s op o i None e n h =
     let lt = numbers-held (nodes s) (length (names s)) (s .numbers) .number op o i (sym e) n in absurd (omega arith)
-read-name s op o i (Some x) e n h =
-    ((some-none o (operation-at (nodes s) op) (sym e), tt),
-     ap (mapped (name-of (names s))) (sym e) ∙ ap (λ (m : Option ℕ). Some (name-at (names s) m)) n ∙ ap (λ (t : List ℕ). Some (Some t)) (h .is []))
+read-name s op o i (Some x) e n h = (
+  (some-none o (operation-at (nodes s) op) (sym e), tt),
+  ap (mapped (name-of (names s))) (sym e) ∙ ap (λ (m : Option ℕ). Some (name-at (names s) m)) n ∙ ap (λ (t : List ℕ). Some (Some t)) (h .is []),
+)
 
 -- what a making leaves, whatever it answers, where enough records are free
 pub shaped-held : (f t : Forest) (before after : List (List ℕ)) (shape : Shape) (name : Option Identifier) (number : Option ℕ) (r : Option MadeOperation)

@@ -84,12 +84,19 @@ module _ (s : Context) (kind regions : ℕ) (name : List ℕ) (shape : Shape) (i
 
 module _ (s : Context) (kind regions : ℕ) (name : List ℕ) (a : Admitted) (p : AdmittedFor s kind regions name a) where
   pub none-fits : NoRow (make-operation-rows s kind regions name)
-  none-fits =
-      (p .shaped .0,
-       (not-long name (a .name) (p .optional),
-        (not-malformed name (a .name) (p .optional),
-         (has-number (names s) name (a .name) (p .optional) (p .holds),
-          (enough s kind regions (a .shape) (p .shaped .1) (p .shaped .2) (p .roomy), tt)))))
+  none-fits = (
+    p .shaped .0,
+    (
+      not-long name (a .name) (p .optional),
+      (
+        not-malformed name (a .name) (p .optional),
+        (
+          has-number (names s) name (a .name) (p .optional) (p .holds),
+          (enough s kind regions (a .shape) (p .shaped .1) (p .shaped .2) (p .roomy), tt),
+        ),
+      ),
+    ),
+  )
 
   pub made-all : (r : MadeOperation) (t : Context) → AdmittedMade s a r t → OperationMade s kind regions name r t
   made-all r t m = record {

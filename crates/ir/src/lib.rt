@@ -4,6 +4,7 @@ mod making;
 mod noting;
 #[cfg(test)]
 mod tests;
+
 pub use context::Context;
 pub use forest::BlockPtr;
 pub use forest::BlockPtrPartialEq;

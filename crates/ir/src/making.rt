@@ -93,7 +93,10 @@ impl Context {
         if !self.forest.has_room(shape) {
             return Err(Refusal::RecordsFull);
         }
-        Ok(Admitted { shape, name: identifier })
+        Ok(Admitted {
+            shape,
+            name: identifier,
+        })
     }
 
     // Holds the name, if there is one, and makes the operation.
@@ -111,7 +114,12 @@ impl Context {
 
     // Makes an operation of this kind (a sum of 1 for a table, 2 for a symbol and 4 for a terminator) with so many regions
     // and this name; a name of no bytes is no name.
-    pub fn make_operation(&mut self, kind: u8, regions: u8, name: &[u8]) -> Result<MadeOperation, Refusal>
+    pub fn make_operation(
+        &mut self,
+        kind: u8,
+        regions: u8,
+        name: &[u8],
+    ) -> Result<MadeOperation, Refusal>
         ensures { λ r. ⌜ Made-operation (now (self .entry)) kind regions (now (name .entry)) r (now (self .exit)) ⌝ }
     {
         match self.admit(kind, regions, name) {

@@ -47,8 +47,14 @@ fn rows_are_tested_in_order(rt: LibcRuntime) -> Result<(), Fail> {
     refused(context.make_operation(1, 2, b""), Refusal::BadShape)?;
     refused(context.make_operation(2, 0, b""), Refusal::BadShape)?;
     refused(context.make_operation(4, 0, &[b'9'; 33]), Refusal::BadShape)?;
-    refused(context.make_operation(2, 0, &[b'9'; 33]), Refusal::NameTooLong)?;
-    refused(context.make_operation(2, 0, b"9a"), Refusal::MalformedIdentifier)?;
+    refused(
+        context.make_operation(2, 0, &[b'9'; 33]),
+        Refusal::NameTooLong,
+    )?;
+    refused(
+        context.make_operation(2, 0, b"9a"),
+        Refusal::MalformedIdentifier,
+    )?;
     check(context.operations_made() == 0)
 }
 
@@ -58,7 +64,12 @@ fn a_stale_handle_dangles(rt: LibcRuntime) -> Result<(), Fail> {
     let made = context.make_operation(4, 0, b"")?;
     context.set_note(made.operation, 7)?;
     check(context.note(made.operation)? == 7)?;
-    let stale = OpPtr { handle: Handle { place: 0, version: 2 } };
+    let stale = OpPtr {
+        handle: Handle {
+            place: 0,
+            version: 2,
+        },
+    };
     match context.set_note(stale, 9) {
         Ok(()) => Err(Fail::new("a stale handle is taken")),
         Err(e) => check(e == Refusal::Dangling && context.note(made.operation)? == 7),

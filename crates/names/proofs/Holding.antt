@@ -1,9 +1,9 @@
 -- From what the list and the map of the names ensure to what the calls answer.
-use mathlib.Core.Path.{_≡_, refl, sym, ap, subst, _∙_}
-use mathlib.Core.Logic.{_⊎_, inl, inr, ∥∥₁-elim}
-use mathlib.Core.Bool.{true, false}
+use mathlib.Core.Path.{_≡_, sym, ap, subst, _∙_}
+use mathlib.Core.Logic.{∥∥₁-elim}
+use mathlib.Core.Bool.{true}
 use mathlib.Core.List.{List, [], _∷_, _++_, map, List·isSet}
-use Prim.Native.Nat.{ℕ, _+_, _<_, _≤_}
+use Prim.Native.Nat.{ℕ, _<_}
 use native.Mathlib.Nat.{ℕ-set}
 use native.Mathlib.Bridge.{le-prop}
 use native.Mathlib.Omega.{arith}
@@ -23,10 +23,10 @@ use Rattle.table.specs.Maps.{used, Maps, Probed, Inserted}
 use Rattle.table.proofs.Laws.{whole}
 use Rattle.identifier.specs.declared.identifier.Identifier.{Identifier}
 use Rattle.identifier.specs.Identifiers.{text, identifier-hash}
-use Rattle.identifier.proofs.Padded.{same-text}
+use Rattle.identifier.proofs.Texts.{same-text}
 use Rattle.names.specs.Places.{Stands, Absent}
 use Rattle.names.specs.Numbering.{Numbered}
-use Rattle.names.specs.Held.{held, Finds, Known, Added, Denied, Once}
+use Rattle.names.specs.Held.{held, Finds, Once}
 use Rattle.names.specs.declared.names.Names.{Names}
 use Rattle.names.proofs.Standing.{stands-map, stands-unmap, stands-from}
 use Rattle.names.proofs.Numbering.{absent, one-place, grown, none-numbered}

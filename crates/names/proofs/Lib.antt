@@ -1,3 +1,3 @@
-mod Holding
+pub mod Holding
 mod Numbering
-mod Standing
+pub mod Standing

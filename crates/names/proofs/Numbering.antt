@@ -1,9 +1,9 @@
 -- The map goes on following the list: at first, and when a new name comes.
-use mathlib.Core.Path.{_≡_, refl, sym, ap, subst, _∙_}
+use mathlib.Core.Path.{_≡_, refl, sym, ap, subst}
 use mathlib.Core.Logic.{_⊎_, inl, inr, ⊎-elim}
 use mathlib.Core.Bool.{Bool, true, false}
 use mathlib.Core.List.{List, [], _∷_, _++_}
-use Prim.Native.Nat.{ℕ, zero, suc, _+_, _<_}
+use Prim.Native.Nat.{ℕ, zero, suc, _+_}
 use native.Mathlib.Omega.{arith}
 use lib.ListN.{length, replicate}
 use Rattle.std.specs.declared.option.Option.{Option}
@@ -19,10 +19,10 @@ use Rattle.table.proofs.Entries.{not-free}
 use Rattle.table.proofs.Laws.{unused-probed, unused-used}
 use Rattle.identifier.specs.declared.identifier.Identifier.{Identifier}
 use Rattle.identifier.specs.Identifiers.{text, identifier-hash}
-use Rattle.identifier.proofs.Padded.{same-text}
+use Rattle.identifier.proofs.Texts.{same-text}
 use Rattle.names.specs.Places.{Stands, Absent}
 use Rattle.names.specs.Numbering.{Numbered}
-use Rattle.names.proofs.Standing.{stands-more, stands-last, stood-or-came, look, one-value}
+use Rattle.names.proofs.Standing.{stands-more, stands-last, stood-or-came, look}
 
 abbrev Entries : Type 0
 Entries = List (Entry Identifier ℕ)

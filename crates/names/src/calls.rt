@@ -52,12 +52,7 @@ impl Names {
     pub fn name(&self, number: u16) -> Option<Identifier>
         ensures { λ r. ⌜ Reads (now (self .entry)) number r ⌝ }
     {
-        let place = number as usize;
-        if place < self.list.len() {
-            Some(self.list[place])
-        } else {
-            None
-        }
+        self.listed(number as usize)
     }
 
     // How many names are held.

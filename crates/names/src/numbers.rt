@@ -1,11 +1,11 @@
-// The map from names to numbers: the calls that read it and write it, for the public calls to use.
+// The list of the names and the map to their numbers: the calls that touch them, for the public calls to use.
 ghost use mathlib.Core.Path.{_≡_};
 ghost use mathlib.Core.List.{[], _∷_, _++_};
 ghost use Prim.Native.Nat.{_<_};
 ghost use lib.ListN.{length};
 ghost use Rattle.identifier.specs.Identifiers.{text};
 ghost use Rattle.names.specs.Places.{Absent};
-ghost use Rattle.names.specs.Held.{held, Finds};
+ghost use Rattle.names.specs.Held.{held, Finds, Reads};
 use super::names::Names;
 use identifier::Identifier;
 use identifier::IdentifierKey;
@@ -18,6 +18,17 @@ impl Names {
         ensures { λ r. ⌜ Finds (now (self .entry)) name r ⌝ }
     {
         get(&self.entries, name)
+    }
+
+    // The name at a place of the list, if there is one.
+    pub(crate) fn listed(&self, place: usize) -> Option<Identifier>
+        ensures { λ r. ⌜ Reads (now (self .entry)) place r ⌝ }
+    {
+        if place < self.list.len() {
+            Some(self.list[place])
+        } else {
+            None
+        }
     }
 
     // Adds a new name after those held, with the next number.

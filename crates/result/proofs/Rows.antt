@@ -1,7 +1,7 @@
 -- Rows have one answer: either none of them fits, or one is the uppermost.
 use mathlib.Core.Path.{_≡_, sym, _∙_}
 use mathlib.Core.List.{List, [], _∷_}
-use mathlib.Core.Logic.{_⊎_, inl, inr}
+use mathlib.Core.Logic.{inl, inr}
 use Rattle.result.specs.Rows.{Uppermost, NoRow}
 
 -- where no row fits, none is the uppermost

@@ -19,16 +19,17 @@ make-region-requires c κs =
     let g = regions-grown (c .args .parent-op) (c .args .body) (shelf (c .args .table .now)) (c .each .i) (sound-shelf (c .args .table .now)) few in
     let r = g .rooms in
     let e : room (shelf (c .each .table) .pool) ≡ room (with-regions (c .args .parent-op) (c .args .body) (c .each .i) (shelf (c .args .table .now)) .pool)
-          = ap (λ (a : Shelf Region). room (a .pool)) (c .each .inv .1) in
+    = ap (λ (a : Shelf Region). room (a .pool)) (c .each .inv .1) in
     omega arith
 
 pub each-again : need.each-again
 each-again c =
-    let lt : c .each .i < 4 = omega arith in
-    (ptrs-step (c .args .parent-op) (c .args .body) (shelf (c .args .table .now)) (c .each .i) (c .each .regions) (c .make-region .result) lt (c .each .inv .0)
-      (c .make-region .ensures .given ∙ ap (λ (a : Shelf Region). region-of (next (a .pool))) (c .each .inv .1)),
-     regions-step (c .args .parent-op) (c .args .body) (shelf (c .args .table .now)) (c .each .i) (shelf (c .make-region .last .table))
-      (c .make-region .ensures .after ∙ ap (entered (new-region (c .args .parent-op) (c .args .body) (c .each .i))) (c .each .inv .1)))
+    let lt : c .each .i < 4 = omega arith in (
+      ptrs-step (c .args .parent-op) (c .args .body) (shelf (c .args .table .now)) (c .each .i) (c .each .regions) (c .make-region .result) lt (c .each .inv .0)
+          (c .make-region .ensures .given ∙ ap (λ (a : Shelf Region). region-of (next (a .pool))) (c .each .inv .1)),
+      regions-step (c .args .parent-op) (c .args .body) (shelf (c .args .table .now)) (c .each .i) (shelf (c .make-region .last .table))
+          (c .make-region .ensures .after ∙ ap (entered (new-region (c .args .parent-op) (c .args .body) (c .each .i))) (c .each .inv .1)),
+    )
 
 pub each-holds : need.each-holds
 each-holds c = (ptrs-none (c .args .parent-op) (c .args .body) (shelf (c .args .table .now)), regions-none (c .args .parent-op) (c .args .body) (shelf (c .args .table .now)))

@@ -12,10 +12,13 @@ index-mut-requires c κs = live-in (c .args .self .now) (c .args .h) (sym (c .if
 
 pub ghost-self : need.ghost-self
 ghost-self c =
-    let after = retired (c .args .self .now) (c .args .h) _ (c .raised .ensures) (c .if-h-eq4294967295 .taken) in
-    (c .args .self .now .few,
-     (c .args .self .now .roomy,
-      (sound-as _ _ after (free-sound (pool (c .args .self .now)) (c .args .h) (sound (c .args .self .now)) (sym (c .if-not-is-live .ensures tt))), tt)))
+    let after = retired (c .args .self .now) (c .args .h) _ (c .raised .ensures) (c .if-h-eq4294967295 .taken) in (
+      c .args .self .now .few,
+      (
+        c .args .self .now .roomy,
+        (sound-as _ _ after (free-sound (pool (c .args .self .now)) (c .args .h) (sound (c .args .self .now)) (sym (c .if-not-is-live .ensures tt))), tt),
+      ),
+    )
 
 pub returns-then-h-eq4294967295 : need.returns-then-h-eq4294967295
 returns-then-h-eq4294967295 c =

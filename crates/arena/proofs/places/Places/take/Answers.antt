@@ -22,11 +22,14 @@ pub ghost-self : need.ghost-self
 ghost-self c =
     let r : vec-len (c .args .self .now .slots) ≤ vec-cap (c .args .self .now .freed) = c .args .self .now .roomy in
     let k = c .pop .ensures .capacity in
-    let roomy : vec-len (c .args .self .now .slots) ≤ vec-cap (c .pop .last .self) = omega arith in
-    (c .args .self .now .few,
-     (roomy, (sound-as _ _ (took (c .args .self .now) (c .in-Some .h) _ _ (c .in-Some .ensures tt .1) (c .pop .ensures .places .1) (c .fresh-after-self .ensures)) (take-sound (pool (c .args .self .now)) (sound (c .args .self .now)) (c .in-Some .ensures tt .0)), tt)))
+    let roomy : vec-len (c .args .self .now .slots) ≤ vec-cap (c .pop .last .self) = omega arith in (
+      c .args .self .now .few,
+      (roomy, (sound-as _ _ (took (c .args .self .now) (c .in-Some .h) _ _ (c .in-Some .ensures tt .1) (c .pop .ensures .places .1) (c .fresh-after-self .ensures)) (take-sound (pool (c .args .self .now)) (sound (c .args .self .now)) (c .in-Some .ensures tt .0)), tt)),
+    )
 
 pub returns : need.returns
-returns c =
-    (c .in-Some .ensures tt .0, c .in-Some .ensures tt .1,
-     took (c .args .self .now) (c .in-Some .h) _ _ (c .in-Some .ensures tt .1) (c .pop .ensures .places .1) (c .fresh-after-self .ensures))
+returns c = (
+  c .in-Some .ensures tt .0,
+  c .in-Some .ensures tt .1,
+  took (c .args .self .now) (c .in-Some .h) _ _ (c .in-Some .ensures tt .1) (c .pop .ensures .places .1) (c .fresh-after-self .ensures),
+)

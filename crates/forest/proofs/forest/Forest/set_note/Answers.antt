@@ -24,7 +24,7 @@ returns c =
       was = sym (read-at table (c .args .op .handle) (c .index-mut .result .now) live (c .index-mut .ensures .value));
       places = refl;
       only = subst (λ (o : Operation). Only (at (shelf table)) (at after) (c .args .op .handle) (Some o)) (c .set-note .ensures)
-        (changed-only (shelf table) after (c .args .op .handle) (c .set-note .last .self) live (live-items table (c .args .op .handle) live) refl refl);
+          (changed-only (shelf table) after (c .args .op .handle) (c .set-note .last .self) live (live-items table (c .args .op .handle) live) refl refl);
       blocks = refl;
       regions = refl;
     }

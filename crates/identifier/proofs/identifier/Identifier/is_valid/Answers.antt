@@ -1,10 +1,7 @@
-use mathlib.Core.Path.{sym, ap, _∙_}
-use mathlib.Core.Bool.{Bool, _&&_}
-use lib.ListN.{drop}
+use mathlib.Core.Path.{sym}
 use Prim.Native.Nat.{_<_}
 use lib.ListN.{length}
 use native.Mathlib.Omega.{arith}
-use Rattle.identifier.specs.Names.{continue-all}
 use Rattle.identifier.proofs.Steps.{goes-on, stops, valid, invalid}
 use Rattle.identifier.proofs.identifier.Identifier.is_valid.Needs as need
 

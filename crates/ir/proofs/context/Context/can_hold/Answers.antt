@@ -13,4 +13,4 @@ pub returns-else-count-lt256 : need.returns-else-count-lt256
 returns-else-count-lt256 c =
     subst (λ (o : Option Identifier). When (c .is-some .result) (Full (names (c .args .self .now)) o → ⊥) (Full (names (c .args .self .now)) o)) (sym (c .in-Some .is))
     (can-hold (c .args .self .now .names) (c .in-Some .identifier) (c .find .result) (c .is-some .result) (c .find .ensures) (c .is-some .ensures)
-      (all-held (c .args .self .now .names) (let n = c .count .ensures in omega arith)))
+    (all-held (c .args .self .now .names) (let n = c .count .ensures in omega arith)))
