@@ -31,18 +31,21 @@ pub record Pool : Type 0 where
 abbrev pub unused-pool : ℕ → Pool
 unused-pool n = record { slots = replicate n unused; freed = []; fresh = 0; taken = 0 }
 
+-- what is known of a place; of one past the last, as of one never taken
 abbrev pub slot-at : Pool → ℕ → Slot
 slot-at p place = getD (p .slots) place unused
 
+-- the place is in use
 abbrev pub is-live : State → Bool
 is-live Vacant = false
 is-live Live = true
 is-live Retired = false
 
--- the handle's place is in use at its version
+-- the place is in use at this version
 abbrev pub live-slot : Slot → ℕ → Bool
 live-slot s version = is-live (s .state) && eqb (s .version) version
 
+-- the handle's place is in use at its version
 abbrev pub live : Pool → Handle → Bool
 live p h = live-slot (slot-at p (h .place)) (h .version)
 
@@ -86,6 +89,7 @@ vacancy-of Vacant = 1
 vacancy-of Live = 0
 vacancy-of Retired = 0
 
+-- the same of what is known of a place
 abbrev pub vacancy : Slot → ℕ
 vacancy s = vacancy-of (s .state)
 
@@ -95,6 +99,7 @@ wear-of Vacant version = version
 wear-of Live version = version + 1
 wear-of Retired version = version + 1
 
+-- the same of what is known of a place
 abbrev pub wear : Slot → ℕ
 wear s = wear-of (s .state) (s .version)
 

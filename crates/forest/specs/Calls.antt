@@ -33,23 +33,26 @@ pub record AllKept (m n : Model) : Type 0 where
   pub blocks : Keeps (m .blocks) (n .blocks)
   pub regions : Keeps (m .regions) (n .regions)
 
--- an operation is made exactly where enough records are free; else all stays
+-- what making an operation answers and leaves: all nodes made, the tables after, and that every live node stays
 pub record OperationMade (f : Forest) (shape : Shape) (name : Option ℕ) (r : MadeOperation) (t : Forest) : Type 0 where
   pub roomy : Roomy (shape .kind) (shape .count) (model f)
   pub answer : r ≡ operation-made (shape .kind) (shape .count) (model f)
   pub after : model t ≡ with-operation (shape .kind) name (shape .count) (model f)
   pub kept : AllKept (model f) (model t)
 
+-- an operation is made exactly where enough records are free; else all stays
 abbrev pub Makes-operation : Forest → Shape → Option ℕ → Option MadeOperation → Forest → Type 0
 Makes-operation f shape name None t = (Roomy (shape .kind) (shape .count) (model f) → ⊥) × (t ≡ f)
 Makes-operation f shape name (Some r) t = OperationMade f shape name r t
 
+-- what making a block answers and leaves
 pub record BlockMade (f : Forest) (r : BlockPtr) (t : Forest) : Type 0 where
   pub roomy : 1 ≤ room (model f .blocks .pool)
   pub answer : r ≡ next-block (model f)
   pub after : model t ≡ with-block (model f)
   pub kept : AllKept (model f) (model t)
 
+-- a block is made exactly where a record is free; else all stays
 abbrev pub Makes-block : Forest → Option BlockPtr → Forest → Type 0
 Makes-block f None t = (room (model f .blocks .pool) ≡ 0) × (t ≡ f)
 Makes-block f (Some r) t = BlockMade f r t

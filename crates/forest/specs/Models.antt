@@ -24,6 +24,7 @@ pub record Model : Type 0 where
   pub blocks : Shelf BasicBlock
   pub regions : Shelf Region
 
+-- the tables of the records
 abbrev pub tables : Records → Model
 tables r = record { operations = shelf (r .operations); blocks = shelf (r .blocks); regions = shelf (r .regions) }
 
@@ -31,17 +32,19 @@ tables r = record { operations = shelf (r .operations); blocks = shelf (r .block
 abbrev pub model : Forest → Model
 model f = tables (f .records)
 
--- the record that a handle names, or none where it is dead
+-- the operation's record that a handle names, or none where it is dead
 abbrev pub operation-at : Model → OpPtr → Option Operation
 operation-at m p = at (m .operations) (p .handle)
 
+-- the same for a block
 abbrev pub block-at : Model → BlockPtr → Option BasicBlock
 block-at m p = at (m .blocks) (p .handle)
 
+-- the same for a region
 abbrev pub region-at : Model → RegionPtr → Option Region
 region-at m p = at (m .regions) (p .handle)
 
--- the handles that the next makings give
+-- a handle as one of an operation, of a block, of a region
 abbrev pub op-of : Handle → OpPtr
 op-of h = record { handle = h }
 
@@ -51,6 +54,7 @@ block-of h = record { handle = h }
 abbrev pub region-of : Handle → RegionPtr
 region-of h = record { handle = h }
 
+-- the operation, the block and the region that the next making of each gives
 abbrev pub next-op : Model → OpPtr
 next-op m = op-of (next (m .operations .pool))
 

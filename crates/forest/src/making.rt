@@ -8,7 +8,7 @@ ghost use Rattle.std.specs.Orderings.{When};
 ghost use Rattle.arena.specs.Pools.{next, room};
 ghost use Rattle.arena.specs.Recorded.{shelf};
 ghost use Rattle.arena.specs.Shelves.{entered};
-ghost use Rattle.forest.specs.Makings.{Roomy, blocks-needed, new-block, new-region, no-region, operation-made, region-ptrs, with-operation, with-regions};
+ghost use Rattle.forest.specs.Makings.{Roomy, blocks-needed, new-block, new-operation, new-region, no-region, operation-made, region-ptrs, with-operation, with-regions};
 ghost use Rattle.std.specs.declared.option.Option.the-variants.{None, Some};
 ghost use Rattle.forest.specs.Models.{block-of, op-of, region-of, tables};
 use crate::basic_block::BasicBlock;
@@ -150,6 +150,22 @@ fn next_op(table: &Arena<Operation>) -> OpPtr
     }
 }
 
+// The record of a new operation: it stands in no block, and its note is 0.
+fn new_operation(kind: Kind, name: Option<u16>, count: usize, regions: [RegionPtr; 4]) -> Operation
+    ensures { λ r. ⌜ r ≡ new-operation kind name count regions ⌝ }
+{
+    Operation {
+        kind,
+        name,
+        count,
+        regions,
+        note: 0,
+        next: None,
+        prev: None,
+        container: None,
+    }
+}
+
 // Makes an operation with its regions and its body, each record whole at once, where enough records are free.
 pub(crate) fn make_operation_in(
     records: &mut Records,
@@ -167,16 +183,7 @@ pub(crate) fn make_operation_in(
     let region = next_region(&records.regions);
     let body = make_body(&mut records.blocks, kind.table, region);
     let regions = make_regions(&mut records.regions, operation, body, count);
-    let whole = Operation {
-        kind,
-        name,
-        count,
-        regions,
-        note: 0,
-        next: None,
-        prev: None,
-        container: None,
-    };
+    let whole = new_operation(kind, name, count, regions);
     let _ = make_in(&mut records.operations, whole);
     MadeOperation {
         operation,

@@ -80,9 +80,11 @@ pub record OperationMade (s : Context) (kind regions : ℕ) (name : List ℕ) (r
   pub after : nodes t ≡ with-operation is number regions (nodes s)
   pub kept : AllKept (nodes s) (nodes t)
 
+-- making an operation of a kind, with so many regions and a name
 abbrev pub Made-operation : Context → ℕ → ℕ → List ℕ → Result MadeOperation Refusal → Context → Type 0
 Made-operation s kind regions name r t = Answered (make-operation-rows s kind regions name) (OperationMade s kind regions name) s r t
 
+-- the refusals of making a block
 abbrev pub make-block-rows : Context → List (Refusal × Type 0)
 make-block-rows s = (RecordsFull, room (nodes s .blocks .pool) ≡ 0) ∷ []
 
@@ -91,6 +93,7 @@ pub record NewBlock (s : Context) (r : BlockPtr) (t : Context) : Type 0 where
   pub made : BlockMade (s .forest) r (t .forest)
   pub held : names t ≡ names s
 
+-- making a block
 abbrev pub Made-block : Context → Result BlockPtr Refusal → Context → Type 0
 Made-block s r t = Answered (make-block-rows s) (NewBlock s) s r t
 
@@ -102,6 +105,7 @@ operation-rows s op = (Dangling, operation-at (nodes s) op ≡ None) ∷ []
 abbrev pub Reads : {X : Type 0} → Context → OpPtr → (Operation → X) → Result X Refusal → Type 0
 Reads s op part r = Answered (operation-rows s op) (λ x t. mapped part (operation-at (nodes s) op) ≡ Some x) s r s
 
+-- reading an operation's kind, and its note
 abbrev pub Kind-read : Context → OpPtr → Result Kind Refusal → Type 0
 Kind-read s op r = Reads s op (λ o. o .kind) r
 
@@ -116,6 +120,7 @@ Num-regions s op r = Reads s op (λ o. o .count) r
 abbrev pub region-nth : ℕ → Operation → Option RegionPtr
 region-nth index o = cond (ltb index (o .count)) (item (o .regions) index) None
 
+-- reading an operation's region
 abbrev pub Region-read : Context → OpPtr → ℕ → Result (Option RegionPtr) Refusal → Type 0
 Region-read s op index r = Reads s op (region-nth index) r
 
@@ -128,5 +133,6 @@ pub record NoteSet (s : Context) (op : OpPtr) (note : ℕ) (t : Context) : Type 
   pub noted : Noted (s .forest) op note (t .forest)
   pub held : names t ≡ names s
 
+-- setting an operation's note
 abbrev pub Note-set : Context → OpPtr → ℕ → Result (Unit {0}) Refusal → Context → Type 0
 Note-set s op note r t = Answered (operation-rows s op) (λ _ t. NoteSet s op note t) s r t

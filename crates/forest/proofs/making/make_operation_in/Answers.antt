@@ -1,6 +1,8 @@
-use mathlib.Core.Path.{_≡_, refl, _∙_}
+use mathlib.Core.Path.{_≡_, refl, ap, _∙_}
 use Prim.Native.Nat.{_≤_}
 use Rattle.arena.specs.Recorded.{shelf}
+use Rattle.arena.specs.Shelves.{entered}
+use Rattle.forest.specs.declared.operation.Operation.{Operation}
 use Rattle.arena.proofs.Shelving.{entered-long}
 use Rattle.forest.specs.Makings.{new-block, with-regions}
 use Rattle.forest.specs.Models.{tables}
@@ -35,6 +37,6 @@ returns c =
       blocks = c .make-body-body .ensures .after;
       ptrs = c .make-regions-regions .ensures .given;
       regions = c .make-regions-regions .ensures .after;
-      operations = c .make-in .ensures .after;
+      operations = c .make-in .ensures .after ∙ ap (λ (o : Operation). entered o (shelf (c .args .records .now .operations))) (c .new-operation-whole .ensures);
     } in
     record { answer = steps-answer _ _ _ _ _ _ steps; after = steps-after _ _ _ _ _ _ steps }
