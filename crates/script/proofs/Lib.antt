@@ -1,0 +1,4 @@
+mod Following
+mod Making
+mod Once
+mod Printing
