@@ -87,7 +87,7 @@ free-other : (h : Handle) (p : Pool) (n : ℕ) → (n ≡ h .place → ⊥) → 
 unfolding free-place
 free-other h p n ne = getD-set-other (p .slots) (h .place) n _ unused ne
 
-same-handle : (k h : Handle) → k .place ≡ h .place → k .version ≡ h .version → k ≡ h
+pub same-handle : (k h : Handle) → k .place ≡ h .place → k .version ≡ h .version → k ≡ h
 same-handle k h p v = ap (λ (n : ℕ). record { place = n; version = k .version }) p ∙ ap (λ (n : ℕ). record { place = h .place; version = n }) v
 
 -- a handle of a place that is live at one version alone

@@ -1,3 +1,4 @@
 pub mod Regions
 pub mod Made
 pub mod Sums
+pub mod Writes

@@ -4,6 +4,7 @@ mod calls;
 mod forest;
 mod handles;
 mod kind;
+mod linking;
 mod making;
 mod noting;
 mod operation;

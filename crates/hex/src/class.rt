@@ -2,6 +2,7 @@
 ghost use mathlib.Core.Path.{_≡_};
 ghost use Rattle.hex.specs.Classes.{class-of, Valued};
 
+// The class of a byte.
 #[derive(Clone, Copy, Drop)]
 pub(crate) enum Class {
     // White space or a comma, which parts pairs of digits.
@@ -14,7 +15,7 @@ pub(crate) enum Class {
     Other,
 }
 
-// The class of a byte.
+// Tells the class of a byte.
 pub(crate) fn classify(byte: u8) -> Class
     ensures value { λ r. ⌜ r ≡ class-of byte ⌝ }
     ensures small { λ r. ⌜ Valued r ⌝ }

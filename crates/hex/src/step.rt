@@ -20,6 +20,7 @@ pub(crate) fn step(state: State, place: usize, byte: u8) -> Result<Step, HexErro
     }
 }
 
+// Between pairs of digits.
 fn between(place: usize, byte: u8) -> Result<Step, HexError>
     ensures { λ r. ⌜ Stepped Between place byte r ⌝ }
 {
@@ -40,6 +41,7 @@ fn between(place: usize, byte: u8) -> Result<Step, HexError>
     }
 }
 
+// In a comment.
 fn comment(place: usize, byte: u8) -> Result<Step, HexError>
     ensures { λ r. ⌜ Stepped Comment place byte r ⌝ }
 {
@@ -55,6 +57,7 @@ fn comment(place: usize, byte: u8) -> Result<Step, HexError>
     });
 }
 
+// After the first digit of a pair.
 fn half(high: u8, first: usize, place: usize, byte: u8) -> Result<Step, HexError>
     requires { ⌜ high < 16 ⌝ }
     ensures { λ r. ⌜ Stepped (Half high first) place byte r ⌝ }

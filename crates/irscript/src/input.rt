@@ -15,7 +15,11 @@ const SCRIPT: u64 = 4097;
 const TEXT: u64 = 1048577;
 
 // The bytes of the script in a file, or on standard input.
-pub fn read_script(rt: &LibcRuntime, hex: bool, file: Option<String>) -> Result<Vec<u8>, AnyError> {
+pub(crate) fn read_script(
+    rt: &LibcRuntime,
+    hex: bool,
+    file: Option<String>,
+) -> Result<Vec<u8>, AnyError> {
     if !hex {
         return read_bytes(rt, file, SCRIPT);
     }
@@ -37,10 +41,12 @@ fn read_bytes(rt: &LibcRuntime, file: Option<String>, limit: u64) -> Result<Vec<
     }
 }
 
+// The first bytes of a file.
 fn read_file(rt: &LibcRuntime, path: &str, limit: u64) -> io::Result<Vec<u8>> {
     read_all(rt.alloc(), fs::open(rt, path)?, limit)
 }
 
+// The first bytes of a source.
 fn read_all<R: Read + Drop>(heap: Global, source: R, limit: u64) -> io::Result<Vec<u8>> {
     let mut bytes = Vec::new(heap);
     let _ = source.take(limit).read_to_end(&mut bytes)?;

@@ -6,7 +6,7 @@ use std::error::AnyError;
 use std::io::Write;
 
 // Prints a line for each field of a script.
-pub fn print_lines(rt: &LibcRuntime, script: &[u8]) -> Result<(), AnyError> {
+pub(crate) fn print_lines(rt: &LibcRuntime, script: &[u8]) -> Result<(), AnyError> {
     let mut session = Session::new(rt.alloc())?;
     let mut out = [0u8; 8192];
     let mut place = 0usize;

@@ -3,7 +3,7 @@ use std::env;
 use std::error::AnyError;
 
 // What --help prints.
-pub const USAGE: &str = "usage: irscript [--hex] [FILE]
+pub(crate) const USAGE: &str = "usage: irscript [--hex] [FILE]
 
 Runs the script in FILE, or on standard input, and prints a line for each of its fields.
 A script has at most 4,096 bytes.
@@ -15,7 +15,7 @@ A script has at most 4,096 bytes.
 
 // What the program is to do.
 #[derive(Drop)]
-pub enum Task {
+pub(crate) enum Task {
     // Print the usage.
     Help,
     // Run the script in the file, or on standard input if there is none, which may be written in hexadecimal.
@@ -23,7 +23,7 @@ pub enum Task {
 }
 
 // Reads the arguments.
-pub fn read_task(rt: &LibcRuntime) -> Result<Task, AnyError> {
+pub(crate) fn read_task(rt: &LibcRuntime) -> Result<Task, AnyError> {
     let mut hex = false;
     let mut file = None;
     for word in env::args(rt)?.skip(1) {

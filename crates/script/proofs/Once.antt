@@ -78,10 +78,10 @@ unfolding shows
 operation-once s kind regs name ns ms c d t u h k =
     let same = one-made s kind regs name ns ms c d t u h k in
     record {
-      answers = same-done ns ms c d (h .shown ∙ ap (shows s) same ∙ sym (k .shown)) (h .closed ∙ sym (k .closed));
-      operations-too = h .operation ∙ ap (λ (m : MadeOperation). operations s ++ (m .operation ∷ [])) same ∙ sym (k .operation);
-      blocks-too = h .body ∙ ap (λ (m : MadeOperation). blocks s ++ listOf (m .body)) same ∙ sym (k .body);
-      regions-too = h .own-regions ∙ ap (λ (m : MadeOperation). regions s ++ take (m .count) (m .regions)) same ∙ sym (k .own-regions);
+      answers = same-done ns ms c d (h .numbered .shown ∙ ap (shows s) same ∙ sym (k .numbered .shown)) (h .closed ∙ sym (k .closed));
+      operations-too = h .numbered .operation ∙ ap (λ (m : MadeOperation). operations s ++ (m .operation ∷ [])) same ∙ sym (k .numbered .operation);
+      blocks-too = h .numbered .body ∙ ap (λ (m : MadeOperation). blocks s ++ listOf (m .body)) same ∙ sym (k .numbered .body);
+      regions-too = h .numbered .own-regions ∙ ap (λ (m : MadeOperation). regions s ++ take (m .count) (m .regions)) same ∙ sym (k .numbered .own-regions);
     }
 
 block-once : (s : Session) (ns ms : List Node) (c d : Close) (t u : Session)

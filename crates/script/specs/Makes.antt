@@ -3,8 +3,7 @@ use mathlib.Core.Path.{_≡_}
 use mathlib.Core.List.{List, [], _∷_, _++_}
 use mathlib.Core.Logic.{_⊎_}
 use Prim.Native.Nat.{ℕ, _+_, _%_, _<_}
-use lib.ListN.{length, getD, take, drop}
-use Rattle.std.specs.Vec.{listOf}
+use lib.ListN.{length, getD, drop}
 use Rattle.std.specs.declared.result.Result.the-variants.{Ok}
 use Rattle.result.specs.declared.refusal.Refusal.{Refusal}
 use Rattle.result.specs.declared.refusal.Refusal.the-variants.{BadField, NumberingFull}
@@ -13,20 +12,22 @@ use Rattle.forest.specs.declared.handles.BlockPtr.{BlockPtr}
 use Rattle.forest.specs.Shapes.{Misshapen}
 use Rattle.ir.specs.Calls.{given, make-operation-rows, make-block-rows, Made-operation, Made-block}
 use Rattle.script.specs.declared.node.Node.{Node}
-use Rattle.script.specs.declared.node.Node.the-variants.{Operation, Block, Region}
+use Rattle.script.specs.declared.node.Node.the-variants.{Block}
 use Rattle.script.specs.declared.node.Close.{Close}
 use Rattle.script.specs.declared.node.Close.the-variants.{Nothing}
 use Rattle.script.specs.declared.session.Session.{Session}
-use Rattle.script.specs.Numbers.{nodes-from}
+use Rattle.script.specs.Numbers.{Made-numbers}
 use Rattle.script.specs.Sessions.{operations, blocks, regions, next-operation, next-block, next-region}
 
--- the parts of the value that makes an operation: a kind byte, a byte that counts its regions, and its name
+-- the value that makes an operation starts with its kind
 abbrev pub kind-in : List ℕ → ℕ
 kind-in value = getD value 0 0
 
+-- then comes the number of its regions
 abbrev pub regions-in : List ℕ → ℕ
 regions-in value = getD value 1 0
 
+-- and the rest is its name
 abbrev pub name-in : List ℕ → List ℕ
 name-in value = drop 2 value
 
@@ -49,17 +50,11 @@ abbrev pub operation-field-rows : Session → List ℕ → List (Refusal × Type
 operation-field-rows s value =
     (BadField, length value < 2) ∷ operation-making s (kind-in value) (regions-in value) (name-in value)
 
--- the store makes the operation; it, its regions in order and its body, if it has one, get the next numbers, and are shown
+-- the store makes the operation, and all that was made with it is numbered and shown
 pub record Operation-made (s : Session) (kind regs : ℕ) (name : List ℕ) (nodes : List Node) (close : Close) (t : Session) : Type 0 where
   pub made : MadeOperation
   pub stored : Made-operation (s .context) kind regs name (Ok made) (t .context)
-  pub operation : operations t ≡ operations s ++ (made .operation ∷ [])
-  pub own-regions : regions t ≡ regions s ++ take (made .count) (made .regions)
-  pub body : blocks t ≡ blocks s ++ listOf (made .body)
-  pub shown : nodes
-      ≡ nodes-from Operation (next-operation s) 1
-      ++ (nodes-from Region (next-region s) (made .count)
-      ++ nodes-from Block (next-block s) (length (listOf (made .body))))
+  pub numbered : Made-numbers s made nodes t
   pub closed : close ≡ Nothing
 
 -- the rows of making a block

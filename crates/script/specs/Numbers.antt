@@ -25,9 +25,8 @@ pub record Numbered {T : Type 0} (kind : ℕ → Node) (new : List T) (before af
   pub more : count′ ≡ count + length new
   pub shown : take count′ nodes′ ≡ take count nodes ++ nodes-from kind (vec-len (before .handles)) (length new)
 
--- what was made with an operation gets the next numbers: the operation, its regions in order and its body; the store stays
+-- what was made with an operation gets the next numbers, and is shown: the operation, its regions in order and its body
 pub record Made-numbers (s : Session) (made : MadeOperation) (nodes : List Node) (t : Session) : Type 0 where
-  pub store : t .context ≡ s .context
   pub operation : operations t ≡ operations s ++ (made .operation ∷ [])
   pub own-regions : regions t ≡ regions s ++ take (made .count) (made .regions)
   pub body : blocks t ≡ blocks s ++ listOf (made .body)

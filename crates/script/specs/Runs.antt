@@ -73,6 +73,7 @@ pub record Whole-run (s : Session) (script : List ℕ) (place : ℕ) (a : Answer
   pub ran : Byte-run s (tag-at script place) (value-at script place) a t
   pub goes : next ≡ next-at script place
 
+-- the field at a place is run
 abbrev pub Field-run : Session → List ℕ → ℕ → Answer → ℕ → Session → Type 0
 Field-run s script place a next t = Cut-run s script place a next t ⊎ Whole-run s script place a next t
 

@@ -24,6 +24,7 @@ fn show(nodes: &mut [Node], count: usize, node: Node) -> usize
     count + 1
 }
 
+// An operation.
 pub(crate) fn number_operation(
     operations: &mut Numbers<OpPtr>,
     operation: OpPtr,
@@ -38,6 +39,7 @@ pub(crate) fn number_operation(
     show(nodes, count, Node::Operation(number))
 }
 
+// A block.
 pub(crate) fn number_block(
     blocks: &mut Numbers<BlockPtr>,
     block: BlockPtr,
@@ -69,6 +71,7 @@ pub(crate) fn number_body(
     }
 }
 
+// A region.
 fn number_region(
     regions: &mut Numbers<RegionPtr>,
     region: RegionPtr,
@@ -83,6 +86,7 @@ fn number_region(
     show(nodes, count, Node::Region(number))
 }
 
+// Regions, in order.
 pub(crate) fn number_regions(
     regions: &mut Numbers<RegionPtr>,
     made: &[RegionPtr],

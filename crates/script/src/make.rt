@@ -129,6 +129,7 @@ fn number_made(session: &mut Session, made: &MadeOperation, nodes: &mut [Node]) 
     requires body { ⌜ next-block (now session) + length (listOf (now made .body)) ≤ 512 ⌝ }
     requires own_regions { ⌜ next-region (now session) + now made .count ≤ 512 ⌝ }
     ensures count { λ r. ⌜ r ≤ 1024 ⌝ }
+    ensures store { λ _. ⌜ now (session .exit) .context ≡ now (session .entry) .context ⌝ }
     ensures numbered { λ r. ⌜ Made-numbers (now (session .entry)) (now (made .entry)) (take r (now (nodes .exit))) (now (session .exit)) ⌝ }
 {
     let count = made.count;

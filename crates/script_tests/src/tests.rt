@@ -61,6 +61,25 @@ fn nodes_are_numbered_as_they_are_made(rt: LibcRuntime) -> Result<(), Fail> {
     check(out.starts_with(b"10 ok o1 r1 r2\n"))
 }
 
+// Runs one field over and over.
+fn run_512_times(session: &mut Session, field: &[u8], out: &mut [u8]) {
+    for _ in 0..512 {
+        let _ = read_line(session, field, 0, out);
+    }
+}
+
+#[test]
+fn numbers_end_at_511_where_the_shape_is_allowed(rt: LibcRuntime) -> Result<(), Fail> {
+    let mut session = Session::new(rt.alloc())?;
+    let mut out = [0u8; 8192];
+    run_512_times(&mut session, b"\x01\x00\x02\x00\x00", &mut out);
+    check(out.starts_with(b"0 ok o511\n"))?;
+    let _ = read_line(&mut session, b"\x01\x00\x02\x00\x00", 0, &mut out);
+    check(out.starts_with(b"0 refused 25\n"))?;
+    let _ = read_line(&mut session, b"\x01\x00\x02\x08\x00", 0, &mut out);
+    check(out.starts_with(b"0 refused 4\n"))
+}
+
 // Runs the field at a place: it is refused, nothing is printed, and the place stays.
 fn out_of_bounds(
     rt: &LibcRuntime,

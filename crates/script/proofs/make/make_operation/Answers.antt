@@ -31,11 +31,8 @@ returns-in-Ok c =
           made = c .in-Ok .made;
           stored =
               subst (λ (x : Context). Made-operation (c .args .session .now .context) (c .args .kind) (c .args .regions) (c .args .name .now) (Ok (c .in-Ok .made)) x)
-              (sym (numbered .store)) (c .in-Ok .ensures tt);
-          operation = numbered .operation;
-          own-regions = numbered .own-regions;
-          body = numbered .body;
-          shown = numbered .shown;
+              (sym (c .number-made-count .ensures .store)) (c .in-Ok .ensures tt);
+          numbered = record { operation = numbered .operation; own-regions = numbered .own-regions; body = numbered .body; shown = numbered .shown };
           closed = refl;
         },
       );
