@@ -27,7 +27,7 @@ use Rattle.arena.proofs.Pooling.{next-within, next-vacant, live-parts, live-wi
 
 -- Lengths.
 
-take-long : (p : Pool) → length (take-place p .slots) ≡ length (p .slots)
+pub take-long : (p : Pool) → length (take-place p .slots) ≡ length (p .slots)
 unfolding take-place
 take-long p = length-set (p .slots) (next-place p) _
 
@@ -96,9 +96,22 @@ other-version p k v e ne =
     let is : slot-at p (k .place) .version ≡ k .version → ⊥ = λ z. ne (sym z ∙ e) in
     and-right (is-live (slot-at p (k .place) .state)) _ (ne-eqb _ _ is)
 
-live-made : (p : Pool) → Sound p → 0 < room p → live (take-place p) (next p) ≡ true
+pub live-made : (p : Pool) → Sound p → 0 < room p → live (take-place p) (next p) ≡ true
 live-made p s h =
     ap (λ (y : Slot). live-slot y (next p .version)) (take-here p s h) ∙ eq-eqb (next p .version) (next p .version) refl
+
+-- every handle but the one given is live exactly if it was
+pub take-live-other : (p : Pool) (k : Handle) → Sound p → 0 < room p → (k ≡ next p → ⊥) → live (take-place p) k ≡ live p k
+take-live-other p k s h ne =
+    ⊎-elim
+    (λ (e : k .place ≡ next-place p).
+    other-version (take-place p) k (next p .version) (ap (λ (n : ℕ). slot-at (take-place p) n .version) e ∙ ap (λ (y : Slot). y .version) (take-here p s h)) (λ v. ne (same-handle k (next p) e v))
+    ∙ sym (vacant-next p k s h e))
+    (λ (o : k .place ≡ next-place p → ⊥). ap (λ (y : Slot). live-slot y (k .version)) (take-other p (k .place) o))
+    (cases-eq (k .place) (next-place p))
+
+pub next-dead : (p : Pool) → Sound p → 0 < room p → live p (next p) ≡ false
+next-dead p s h = vacant-next p (next p) s h refl
 
 module _ {T : Type 0} where
   -- Items.

@@ -25,7 +25,8 @@ use Rattle.forest.specs.declared.operation.Operation.{Operation}
 use Rattle.forest.specs.declared.region.Region.{Region}
 use Rattle.forest.specs.Calls.{AllKept, Keeps}
 use Rattle.forest.specs.Makings.{Roomy, body-of, blocks-needed, new-block, new-operation, no-region, operation-made, region-ptrs, regions-made, with-block, with-body, with-operation, with-regions}
-use Rattle.forest.specs.Models.{Model, model, next-block, next-op, next-region, tables}
+use Rattle.forest.specs.Forests.{model}
+use Rattle.forest.specs.Models.{Model, next-block, next-op, next-region, tables}
 use Rattle.forest.proofs.Regions.{Grown, grown-more, grown-none, regions-grown}
 
 -- one making keeps all that is live in its table

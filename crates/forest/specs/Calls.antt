@@ -15,7 +15,8 @@ use Rattle.forest.specs.declared.making.MadeOperation.{MadeOperation}
 use Rattle.forest.specs.declared.operation.Operation.{Operation}
 use Rattle.forest.specs.declared.shape.Shape.{Shape}
 use Rattle.forest.specs.Makings.{Roomy, new-block, operation-made, with-block, with-operation}
-use Rattle.forest.specs.Models.{Model, model, next-block, operation-at}
+use Rattle.forest.specs.Forests.{model}
+use Rattle.forest.specs.Models.{Model, next-block, operation-at}
 
 -- a store in which nothing was ever made
 pub record Fresh (f : Forest) : Type 0 where

@@ -9,7 +9,6 @@ use Rattle.arena.specs.Pools.{Pool, next}
 use Rattle.arena.specs.Recorded.{shelf}
 use Rattle.arena.specs.Shelves.{Shelf, at}
 use Rattle.forest.specs.declared.basic_block.BasicBlock.{BasicBlock}
-use Rattle.forest.specs.declared.forest.Forest.{Forest}
 use Rattle.forest.specs.declared.handles.BlockPtr.{BlockPtr}
 use Rattle.forest.specs.declared.handles.OpPtr.{OpPtr}
 use Rattle.forest.specs.declared.handles.RegionPtr.{RegionPtr}
@@ -27,10 +26,6 @@ pub record Model : Type 0 where
 -- the tables of the records
 abbrev pub tables : Records → Model
 tables r = record { operations = shelf (r .operations); blocks = shelf (r .blocks); regions = shelf (r .regions) }
-
--- what the store means
-abbrev pub model : Forest → Model
-model f = tables (f .records)
 
 -- the operation's record that a handle names, or none where it is dead
 abbrev pub operation-at : Model → OpPtr → Option Operation

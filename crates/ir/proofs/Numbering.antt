@@ -26,7 +26,8 @@ use Rattle.forest.specs.declared.operation.Operation.{Operation}
 use Rattle.forest.specs.declared.shape.Shape.{Shape}
 use Rattle.forest.specs.Calls.{Fresh, Makes-block, Makes-operation, Notes, noted}
 use Rattle.forest.specs.Makings.{Roomy, new-operation, regions-made, with-operation}
-use Rattle.forest.specs.Models.{Model, model, operation-at}
+use Rattle.forest.specs.Forests.{model}
+use Rattle.forest.specs.Models.{Model, operation-at}
 use Rattle.names.specs.declared.names.Names.{Names}
 use Rattle.names.specs.Held.{Finds, held}
 use Rattle.names.specs.Held.{Reads as NamesRead}

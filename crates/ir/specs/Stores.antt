@@ -6,7 +6,8 @@ use lib.ListN.{getD}
 use Rattle.std.specs.declared.option.Option.{Option}
 use Rattle.std.specs.declared.option.Option.the-variants.{Some, None}
 use Rattle.forest.specs.declared.operation.Operation.{Operation}
-use Rattle.forest.specs.Models.{Model, model}
+use Rattle.forest.specs.Forests.{model}
+use Rattle.forest.specs.Models.{Model}
 use Rattle.forest.specs.Calls.{Fresh}
 use Rattle.names.specs.Held.{held}
 use Rattle.ir.specs.declared.context.Context.{Context}

@@ -1,6 +1,6 @@
 // The store of a program: its nodes, and the names that it holds. Both are reached in this crate alone.
 ghost use Rattle.ir.specs.Numbers.{NumbersHeld};
-ghost use Rattle.forest.specs.Models.{model};
+ghost use Rattle.forest.specs.Forests.{model};
 ghost use Rattle.names.specs.Held.{held};
 ghost use lib.ListN.{length};
 use forest::Forest;

@@ -7,3 +7,4 @@ pub mod Neighbours
 pub mod Marks
 pub mod Steps
 pub mod Draws
+pub mod Grows

@@ -6,6 +6,8 @@ use Rattle.arena.specs.Shelves.{Only, Shelf, at}
 use Rattle.arena.proofs.Shelving.{at-dead, changed-only, live-items, live-records, read-at}
 use Rattle.std.specs.declared.option.Option.the-variants.{Some}
 use Rattle.forest.specs.declared.operation.Operation.{Operation}
+use Rattle.linked_list.specs.Links.{Sound}
+use Rattle.forest.proofs.Kept.{noted-links}
 use Rattle.forest.proofs.forest.Forest.set_note.Needs as need
 
 pub returns-then-not-is-live : need.returns-then-not-is-live
@@ -13,6 +15,15 @@ returns-then-not-is-live c = (at-dead (shelf (c .args .self .now .records .opera
 
 pub index-mut-requires : need.index-mut-requires
 index-mut-requires c κs = live-records (c .args .self .now .records .operations) (c .args .op .handle) (sym (c .if-not-is-live .ensures tt))
+
+pub ghost-self : need.ghost-self
+ghost-self c =
+    let r = c .args .self .now .records in
+    let live = sym (c .if-not-is-live .ensures tt) in
+    let links = noted-links (r .operations) (c .args .op .handle) (c .index-mut .result .now) (c .set-note .last .self) (c .args .note) live (c .index-mut .ensures .value) (c .set-note .ensures) (shelf (r .blocks)) (shelf (r .regions)) in (
+      ((r .operations .long, tt), (r .ops, (r .blks, (r .rgns, tt)))),
+      (subst Sound (sym links) (c .args .self .now .oplists), (c .args .self .now .blocklists, tt)),
+    )
 
 pub returns : need.returns
 returns c =
