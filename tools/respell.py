@@ -86,7 +86,12 @@ IMPORT = re.compile(r"use [\w.]*\.(?:Goals|Given)(?:\.\{[^}]*\})?")
 STD = re.compile(r"use (?:Rattle\.std|mathlib|borrow|denote|Prim|lib)\.[\w.]*\.\{([^}]*)\}")
 
 
-def respell(text, renamed):
+def is_answer(path):
+    """A file that answers goals, below a folder of proofs/; there `c` and its like are what the kit makes."""
+    return re.match(r"crates/[^/]*/proofs/[^/]*/", path) is not None
+
+
+def respell(text, renamed, answers=False):
     # what is imported from the kit's library keeps its name in this file
     kept = set()
     for m in STD.finditer(text):
@@ -98,7 +103,7 @@ def respell(text, renamed):
         if word not in renamed or word in kept:
             continue
         before = text[max(0, m.start() - 12):m.start()]
-        if re.search(r"(?<![\w'\-])(?:c|l|g|goal|goal\.at|w)\.$", before):
+        if answers and re.search(r"(?<![\w'\-])(?:c|l|g|goal|goal\.at|w)\.$", before):
             continue
         if any(a <= m.start() < b for a, b in skip):
             continue
@@ -149,7 +154,7 @@ def main():
         print(f"{n} -> {s}" + ("   (this name stands already)" if s in there else ""))
     for path in paths() + sources():
         text = read(path)
-        new = (clauses if path.endswith(".rt") else respell)(text, renamed)
+        new = clauses(text, renamed) if path.endswith(".rt") else respell(text, renamed, is_answer(path))
         if new != text:
             with open(path, "w", encoding="utf-8") as f:
                 f.write(new)

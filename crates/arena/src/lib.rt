@@ -1,4 +1,6 @@
 // Records of one kind in places that are taken, freed and taken again, each under a version.
+#![tactic(auto)]
+
 mod arena;
 mod handle;
 mod places;

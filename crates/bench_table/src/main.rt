@@ -1,5 +1,7 @@
 // Measures how many entries a search looks at in a map of 512 entries with 256 keys: as filled, and after 5,000 keys were
 // replaced by others.
+#![tactic(auto)]
+
 mod key;
 mod looks;
 mod pair;

@@ -1,4 +1,6 @@
 // The store of operations, blocks and regions: its links always describe lists of children, and nothing contains itself.
+#![tactic(auto)]
+
 mod climbing;
 mod forest;
 mod iter;

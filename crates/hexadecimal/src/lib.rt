@@ -1,4 +1,6 @@
 // Hexadecimal text for people: digits in pairs, with white space, commas and comments between the pairs.
+#![tactic(auto)]
+
 mod class;
 mod decoding;
 mod error;

@@ -1,4 +1,6 @@
 // Identifiers: which bytes are a valid name, and a valid name of at most 32 bytes, held inline.
+#![tactic(auto)]
+
 mod class;
 mod identifier;
 mod key;

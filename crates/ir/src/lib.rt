@@ -1,4 +1,6 @@
 // The store as its users have it: nodes and names, and the calls on them, each with its refusals.
+#![tactic(auto)]
+
 mod context;
 mod linking;
 mod making;

@@ -1,4 +1,6 @@
 // The program irscript: runs a script, and prints a line for each of its fields.
+#![tactic(auto)]
+
 mod input;
 mod lines;
 mod options;

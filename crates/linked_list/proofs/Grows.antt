@@ -59,7 +59,7 @@ module _ {N C : Type 0} where
 
     pub grows_holds : Holds w M
     grows_holds = record {
-      chains = λ c k. elim (g.new-containers c k) [ inl old ↦ old_chain c old | inr ch ↦ ch ];
-      listed = λ n c l i. elim (g.new-nodes n l) [ inl old ↦ old_listed n c old i | inr p ↦ p.listed c i ];
-      loose = λ n l i. elim (g.new-nodes n l) [ inl old ↦ old_loose n old i | inr p ↦ p.loose i ];
+      chains = λ c k. elim (g.new_containers c k) [ inl old ↦ old_chain c old | inr ch ↦ ch ];
+      listed = λ n c l i. elim (g.new_nodes n l) [ inl old ↦ old_listed n c old i | inr p ↦ p.listed c i ];
+      loose = λ n l i. elim (g.new_nodes n l) [ inl old ↦ old_loose n old i | inr p ↦ p.loose i ];
     }

@@ -1,4 +1,6 @@
 // Doubly linked lists whose links stand in a store: what a node must offer, the edits, and the steps of an iteration.
+#![tactic(auto)]
+
 mod edits;
 mod gap;
 mod gaps;

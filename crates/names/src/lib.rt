@@ -1,4 +1,6 @@
 // The names that a store holds, numbered from 0 in the order in which they came.
+#![tactic(auto)]
+
 mod calls;
 mod names;
 mod numbers;

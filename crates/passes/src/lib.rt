@@ -1,4 +1,6 @@
 // Small passes over a store: how its calls are used from outside.
+#![tactic(auto)]
+
 ghost use Rattle.passes.specs.Firsts.{FirstTaken};
 
 use ir::{BlockPtr, Context, OpPtr};

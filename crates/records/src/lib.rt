@@ -1,5 +1,7 @@
 // The records of operations, blocks and regions: how they are made, read and linked. Knows names by their numbers alone.
 // No record is written outside of this crate, and the setters of links are reached in it alone.
+#![tactic(auto)]
+
 mod basic_block;
 mod editing;
 mod handles;

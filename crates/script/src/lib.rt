@@ -1,4 +1,6 @@
 // Scripts: fields, the numbering of nodes, and the line call, which runs one field and prints its line.
+#![tactic(auto)]
+
 mod field;
 mod give;
 mod laws;

@@ -1,3 +1,5 @@
 // Tests of the line call, in a crate of their own: a crate with tests is proved twice.
+#![tactic(auto)]
+
 #[cfg(test)]
 mod tests;

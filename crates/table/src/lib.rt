@@ -1,4 +1,6 @@
 // A map over a slice of entries that its holder lends at each call.
+#![tactic(auto)]
+
 mod entry;
 mod map;
 mod shift;

@@ -1,4 +1,6 @@
 // Nodes that each stand in at most one other: what lies inside what. Theory alone, over any kind of node.
+#![tactic(auto)]
+
 ghost use Rattle.std.specs.Prelude.{◌≡◌, Some, Option};
 ghost use Rattle.trees.specs.Climbs.{Acyclic, ContainsItself};
 

@@ -7,50 +7,50 @@ use Rattle.linked_list.proofs.Neighbours.{its_container, its_prev, its_next}
 use Rattle.linked_list.proofs.Ends.{live_same}
 use Rattle.linked_list.proofs.edits.unlink_from.Goals as goal
 
-pub set-forward-requires : goal.set-forward-requires
-set-forward-requires g c =
+pub set_forward-requires : goal.set_forward-requires
+set_forward-requires g c =
     let v = g.N.LinkedList.view c.args.ctx.now in
     record {
       container = its_container v c.args.n c.args.c c.requires.sound c.requires.node c.requires.inside;
-      node = its_prev v c.args.n c.args.c c.requires.sound c.requires.node c.requires.inside _ c.gap-around-gap.ensures.before;
+      node = its_prev v c.args.n c.args.c c.requires.sound c.requires.node c.requires.inside _ c.gap_around-gap.ensures.before;
     }
 
-pub set-backward-requires : goal.set-backward-requires
-set-backward-requires g c =
+pub set_backward-requires : goal.set_backward-requires
+set_backward-requires g c =
     let v = g.N.LinkedList.view c.args.ctx.now in
-    let v1 = g.N.LinkedList.view c.set-forward.new.ctx in
-    let p = c.gap-around-gap.result.before in
-    let q = c.gap-around-gap.result.after in
-    let f : Fwd v v1 c.args.c p q = fwd v v1 c.args.c p q c.set-forward.ensures.sets in
+    let v1 = g.N.LinkedList.view c.set_forward.new.ctx in
+    let p = c.gap_around-gap.result.before in
+    let q = c.gap_around-gap.result.after in
+    let f : Fwd v v1 c.args.c p q = fwd v v1 c.args.c p q c.set_forward.ensures.sets in
     let k : v.held c.args.c ≡ true = its_container v c.args.n c.args.c c.requires.sound c.requires.node c.requires.inside in
     let h = f.held in
     record {
       container = cc;
       node = live_same v v1 q f.live
-          (its_next v c.args.n c.args.c c.requires.sound c.requires.node c.requires.inside q c.gap-around-gap.ensures.after);
+          (its_next v c.args.n c.args.c c.requires.sound c.requires.node c.requires.inside q c.gap_around-gap.ensures.after);
     }
 
 pub returns : goal.returns
 returns g c =
     let t = g.N.LinkedList in
     let v = t.view c.args.ctx.now in
-    let v1 = t.view c.set-forward.new.ctx in
-    let v2 = t.view c.set-backward.new.ctx in
-    let v3 = t.view c.set-next.new.ctx in
-    let v4 = t.view c.set-prev.new.ctx in
-    let w = t.view c.set-container.new.ctx in
-    let p = c.gap-around-gap.result.before in
-    let q = c.gap-around-gap.result.after in
+    let v1 = t.view c.set_forward.new.ctx in
+    let v2 = t.view c.set_backward.new.ctx in
+    let v3 = t.view c.set_next.new.ctx in
+    let v4 = t.view c.set_prev.new.ctx in
+    let w = t.view c.set_container.new.ctx in
+    let p = c.gap_around-gap.result.before in
+    let q = c.gap_around-gap.result.after in
     let rem : Removed v w c.args.c p c.args.n q =
     removed v v1 v2 v3 v4 w c.args.c p c.args.n q
-    (fwd v v1 c.args.c p q c.set-forward.ensures.sets)
-    (bwd v1 v2 c.args.c q p c.set-backward.ensures.sets)
-    c.set-next.ensures.sets c.set-prev.ensures.sets c.set-container.ensures.sets in
+    (fwd v v1 c.args.c p q c.set_forward.ensures.sets)
+    (bwd v1 v2 c.args.c q p c.set_backward.ensures.sets)
+    c.set_next.ensures.sets c.set_prev.ensures.sets c.set_container.ensures.sets in
     let m = g.met.N.LinkedList in
     let k = its_container v c.args.n c.args.c c.requires.sound c.requires.node c.requires.inside in
     let out : Removes v w c.args.n c.args.c = record {
       lists = λ L M h t others.
-          remove_holds v w L M c.args.c c.args.n p q t.0 t.1 m.nodes m.containers c.requires.inside k c.gap-around-gap.ensures.before c.gap-around-gap.ensures.after h t.2 rem t.3 others;
+          remove_holds v w L M c.args.c c.args.n p q t.0 t.1 m.nodes m.containers c.requires.inside k c.gap_around-gap.ensures.before c.gap_around-gap.ensures.after h t.2 rem t.3 others;
       moves = record { here = rem.n_within; other = rem.within };
       live = rem.live;
       held = rem.held;

@@ -2,16 +2,16 @@ use Rattle.std.proofs.Common.{sym, ◌∙◌}
 use Rattle.linked_list.proofs.Steps.{front_live, none_front, after_first, after_first_spanned}
 use Rattle.linked_list.proofs.iter.step_front.Goals as goal
 
-pub past-front-requires : goal.past-front-requires
-past-front-requires g c =
+pub past_front-requires : goal.past_front-requires
+past_front-requires g c =
     front_live (g.N.LinkedList.view c.args.ctx.now) c.args.span c.in-Some.n c.requires.spanned c.in-Some.is
 
 pub returns-in-Some : goal.returns-in-Some
 returns-in-Some g c =
     let v = g.N.LinkedList.view c.args.ctx.now in
     let s = c.args.span in
-    let t = c.past-front.result in
-    let p = c.past-front.ensures in
+    let t = c.past_front.result in
+    let p = c.past_front.ensures in
     record {
       steps = record { node = λ d ns sp. sym c.in-Some.is ∙ sp.front; left = after_first v s t c.in-Some.n c.in-Some.is p.end p.on };
       spanned = after_first_spanned v s t c.in-Some.n c.in-Some.is p.end p.on c.requires.spanned;

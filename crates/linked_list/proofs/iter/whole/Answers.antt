@@ -7,6 +7,6 @@ returns g c =
     let v = g.N.LinkedList.view c.args.ctx.now in
     let d = c.args.c in
     record {
-      spans = λ L h. whole_spans v L d _ h c.requires.container c.get-head.ensures c.get-tail.ensures;
-      spanned = ∥∥₁_map c.requires.sound (λ s. (d, (s.0 d, whole_spans v s.0 d _ s.1 c.requires.container c.get-head.ensures c.get-tail.ensures)));
+      spans = λ L h. whole_spans v L d _ h c.requires.container c.get_head.ensures c.get_tail.ensures;
+      spanned = ∥∥₁_map c.requires.sound (λ s. (d, (s.0 d, whole_spans v s.0 d _ s.1 c.requires.container c.get_head.ensures c.get_tail.ensures)));
     }

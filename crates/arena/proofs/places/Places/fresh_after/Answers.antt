@@ -2,14 +2,14 @@ use Rattle.std.proofs.Common.{◌≡◌, ℕ, ◌+◌, Bool, true, false, cond, 
 use Rattle.arena.specs.Pools.{take_place}
 use Rattle.arena.proofs.places.Places.fresh_after.Goals as goal
 
-pub returns-then-is-empty : goal.returns-then-is-empty
+pub returns-then-is_empty : goal.returns-then-is_empty
 unfolding take_place
-returns-then-is-empty c =
+returns-then-is_empty c =
     ap (λ (b : Bool). cond b (c.args.self.now.fresh + 1) c.args.self.now.fresh)
-    (c.if-is-empty.ensures ∙ ap (λ (n : ℕ). eqb n 0) c.args.self.now.freed.ok.0)
+    (c.if-is_empty.ensures ∙ ap (λ (n : ℕ). eqb n 0) c.args.self.now.freed.ok.0)
 
-pub returns-else-is-empty : goal.returns-else-is-empty
+pub returns-else-is_empty : goal.returns-else-is_empty
 unfolding take_place
-returns-else-is-empty c =
+returns-else-is_empty c =
     ap (λ (b : Bool). cond b (c.args.self.now.fresh + 1) c.args.self.now.fresh)
-    (c.if-is-empty.ensures ∙ ap (λ (n : ℕ). eqb n 0) c.args.self.now.freed.ok.0)
+    (c.if-is_empty.ensures ∙ ap (λ (n : ℕ). eqb n 0) c.args.self.now.freed.ok.0)

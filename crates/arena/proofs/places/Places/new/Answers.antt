@@ -6,15 +6,15 @@ use Rattle.arena.proofs.Pooling.{unused_sound}
 use Rattle.arena.proofs.places.Places.new.Goals as goal
 
 -- every place is unused, and none is freed
-fresh : (c : goal.In-ok-freed) → ◌≡◌ {A = Pool} (record { slots = vec_items c.in-ok-slots.slots; freed = vec_items c.in-ok-freed.freed; fresh = 0; taken = 0 }) (unused_pool c.args.size)
+fresh : (c : goal.In_ok-freed) → ◌≡◌ {A = Pool} (record { slots = vec_items c.in_ok-slots.slots; freed = vec_items c.in_ok-freed.freed; fresh = 0; taken = 0 }) (unused_pool c.args.size)
 fresh c =
-    ap (λ (xs : List Slot). record { slots = xs; freed = vec_items c.in-ok-freed.freed; fresh = 0; taken = 0 }) (c.in-ok-slots.ensures.items-if-clones-equal (λ y h. search rules))
-    ∙ ap (λ (xs : List ℕ). record { slots = replicate c.args.size unused; freed = xs; fresh = 0; taken = 0 }) c.in-ok-freed.ensures.items
+    ap (λ (xs : List Slot). record { slots = xs; freed = vec_items c.in_ok-freed.freed; fresh = 0; taken = 0 }) (c.in_ok-slots.ensures.items_if_clones_equal (λ y h. search rules))
+    ∙ ap (λ (xs : List ℕ). record { slots = replicate c.args.size unused; freed = xs; fresh = 0; taken = 0 }) c.in_ok-freed.ensures.items
 
-pub invariant-of-result : goal.invariant-of-result
-invariant-of-result c =
-    let n = c.in-ok-slots.ensures.len in
-    let k = c.in-ok-freed.ensures.capacity in
-    let few : vec_len c.in-ok-slots.slots ≤ 65535 = omega arith in
-    let roomy : vec_len c.in-ok-slots.slots ≤ vec_capacity c.in-ok-freed.freed = omega arith in
-    (few, (roomy, (sound_as _ _ (fresh c) (unused_sound c.args.size), tt)))
+pub invariant_of-result : goal.invariant_of-result
+invariant_of-result c =
+    let n = c.in_ok-slots.ensures.len in
+    let k = c.in_ok-freed.ensures.capacity in
+    let few : vec_len c.in_ok-slots.slots ≤ 65535 = omega arith in
+    let roomy : vec_len c.in_ok-slots.slots ≤ vec_capacity c.in_ok-freed.freed = omega arith in
+    record { few = few; roomy = roomy; sound = sound_as _ _ (fresh c) (unused_sound c.args.size) }

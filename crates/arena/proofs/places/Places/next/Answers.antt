@@ -13,4 +13,4 @@ index-slot-requires c =
 pub returns : goal.returns
 returns c =
     let some : 0 < room (pool c.args.self.now) = omega arith in
-    (some, next_is c.args.self.now c.next-place-place.result c.index-slot.result.now some c.next-place-place.ensures c.index-slot.ensures)
+    (some, next_is c.args.self.now c.next_place-place.result c.index-slot.result.now some c.next_place-place.ensures c.index-slot.ensures)
