@@ -1,7 +1,10 @@
 -- One step of the hash, and that equal texts tell equal identifiers.
-use Rattle.std.proofs.Common.{◌≡◌, ℕ, ◌+◌, ◌<◌, ◌≤◌, Bool, List, length, get_or, take, Decides, fold, sym, ap, ◌∙◌, subst}
+use Rattle.std.proofs.Common.{◌≡◌, ℕ, ◌+◌, ◌<◌, ◌≤◌, Bool, true, false, List, length, get_or, take, Decides, MatchBool, nat_eq, fold, sym, refl, ap, ◌∙◌, subst}
+use Rattle.std.proofs.lemmas.Bool.Decides.{not_from_Decides}
 use Rattle.std.proofs.lemmas.List.{take_all}
 use Rattle.std.proofs.lemmas.List.Sums.{fold_more}
+use Rattle.std.specs.Cmp.Lexicographic.{pointwise, bytes_decides}
+use Rattle.std.specs.Ordering.{on}
 use Rattle.identifier.specs.Identifiers.{text, fnv_step}
 use Rattle.identifier.specs.declared.identifier.Identifier.{Identifier}
 use Rattle.identifier.proofs.Texts.{same_text}
@@ -19,3 +22,13 @@ mixed_all xs ys i s h same past so_far =
 pub told : (a b : Identifier) (xs ys : List ℕ) (r : Bool) → xs ≡ text a → ys ≡ text b → Decides r (xs ≡ ys) → Decides r (a ≡ b)
 told a b xs ys r p q d =
     (λ t. same_text a b (sym p ∙ d.0 t ∙ q), λ e. d.1 (p ∙ ap text e ∙ sym q))
+
+-- the test of the texts decides whether the identifiers are one
+pub decided : (a b : Identifier) (r : Bool) → r ≡ on text (pointwise nat_eq) a b → Decides r (a ≡ b)
+decided a b r e =
+    told a b (text a) (text b) r refl refl (subst (λ (q : Bool). Decides q (text a ≡ text b)) (sym e) (bytes_decides (text a) (text b)))
+
+-- what a test that decides a fact says at each of its answers
+pub matched : (P : Type 0) (r : Bool) → Decides r P → MatchBool r P (P → ⊥)
+matched P true d = d.0 refl
+matched P false d = not_from_Decides false d refl

@@ -1,25 +1,29 @@
 // Equality of identifiers, and identifiers as keys of a map.
-ghost use Rattle.std.specs.Prelude.{◌≡◌, Decides};
-ghost use Rattle.identifier.specs.Identifiers.{identifier_hash};
+ghost use Rattle.std.specs.Prelude.{◌≡◌, Decides, nat_eq};
+ghost use Rattle.std.specs.Cmp.Lexicographic.{pointwise};
 ghost use Rattle.std.specs.Cmp.Rules.{comparing};
-ghost use Rattle.std.proofs.Common.{rules, arith};
-ghost use Rattle.std.specs.Cmp as Keys;
+ghost use Rattle.std.specs.Ordering.{on};
+ghost use Rattle.std.proofs.Common.{rules};
+ghost use Rattle.identifier.specs.Identifiers.{identifier_hash, text};
 
 use super::identifier::Identifier;
 use table::Key;
 
 impl PartialEq for Identifier {
-    ghost equals = { λ a b r. Decides r (a ≡ b) };
+    ghost eq = { on text (pointwise nat_eq) };
 
-    ghost laws = { Keys.partial_equiv_from_equiv (first_of (Prim.search (comparing, rules), Prim.grind (arith, Self.row.coded.inj))) };
+    ghost laws = { Prim.search (comparing, rules) };
 
-    fn eq(&self, other: &Identifier) -> bool {
+    fn eq(&self, other: &Identifier) -> bool
+        ensures value { result ≡ on text (pointwise nat_eq) self.now other.now }
+        ensures same { Decides result (self.now ≡ other.now) }
+    {
         self.as_bytes() == other.as_bytes()
     }
 }
 
 impl Eq for Identifier {
-    ghost laws = { first_of (Prim.search (comparing, rules), Prim.grind (arith, Self.row.coded.inj)) };
+    ghost laws = { Prim.search (comparing, rules) };
 }
 
 impl Key for Identifier {

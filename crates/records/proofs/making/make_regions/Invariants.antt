@@ -6,5 +6,5 @@ use Rattle.records.proofs.making.make_regions.Given as goal
 -- the regions below i are made, and their handles stand in the first i places
 abbrev pub invariant-each : goal.invariant-each
 invariant-each l =
-    (l.regions ≡ region_ptrs l.parent-op l.body l.i (shelf l.initial.table) ++ replicate (4 - l.i) no_region)
-    × (shelf l.table ≡ with_regions l.parent-op l.body l.i (shelf l.initial.table))
+    (l.regions ≡ region_ptrs l.parent_op l.body l.i (shelf l.initial.table) ++ replicate (4 - l.i) no_region)
+    × (shelf l.table ≡ with_regions l.parent_op l.body l.i (shelf l.initial.table))

@@ -21,18 +21,18 @@ pub climb-preserved : goal.climb-preserved
 climb-preserved c =
     let m = model c.args.self.now in
     let at : Option IRNode → Type 0 = Inside? m c.args.outer in
-    let ne : c.in-Some.here ≡ c.args.outer → ⊥ = c.same-node.ensures.no c.if-same-node.false in
+    let ne : c.in-Some.here ≡ c.args.outer → ⊥ = c.same_node.ensures.no c.if-same_node.false in
     let up : c.parent-at.result ≡ parent m c.in-Some.here = c.parent-at.ensures in (
       (λ h. subst at (sym up) (lower m c.args.outer c.in-Some.here ne (subst at c.in-Some.is (c.climb.invariant.0 h)))),
       (λ h. c.climb.invariant.1 (subst at (sym c.in-Some.is) (lift m c.args.outer c.in-Some.here (subst at up h)))),
     )
 
-pub returns-then-same-node : goal.returns-then-same-node
-returns-then-same-node c =
+pub returns-then-same_node : goal.returns-then-same_node
+returns-then-same_node c =
     let m = model c.args.self.now in
     let at : Option IRNode → Type 0 = Inside? m c.args.outer in
     record {
-      yes = λ _. c.climb.invariant.1 (subst at (sym c.in-Some.is) (self (c.same-node.ensures.yes c.if-same-node.true)));
+      yes = λ _. c.climb.invariant.1 (subst at (sym c.in-Some.is) (self (c.same_node.ensures.yes c.if-same_node.true)));
       no = λ e. absurd (clash e);
     }
 
@@ -42,5 +42,5 @@ returns c =
     let at : Option IRNode → Type 0 = Inside? m c.args.outer in
     record {
       yes = λ e. absurd (clash (sym e));
-      no = λ _ w. subst at c.in-default.is (c.climb.invariant.0 w);
+      no = λ _ w. subst at c.in_default.is (c.climb.invariant.0 w);
     }

@@ -12,12 +12,12 @@ use Rattle.forest.proofs.Keeping.{block_kept}
 use Rattle.forest.proofs.Tables.{tables_of}
 use Rattle.forest.proofs.forest.Forest.make_block.Goals as goal
 
-pub invariant-of-self : goal.invariant-of-self
-invariant-of-self c =
+pub invariant_of-self : goal.invariant_of-self
+invariant_of-self c =
     let m = tables c.args.self.now.records in
     let t = tables_of c.args.self.now.records in
-    let after = sym c.make-block.ensures.after in
-    let some : 1 ≤ room m.blocks.pool = let e = c.blocks-left.ensures in let n = c.if-blocks-left-eq0.false in omega arith in (
+    let after = sym c.make_block.ensures.after in
+    let some : 1 ≤ room m.blocks.pool = let e = c.blocks_left.ensures in let n = c.if-blocks_left-eq0.false in omega arith in (
       subst (λ (n : Model). Sound (op_links n)) after (block_op_lists m t some c.args.self.now.oplists),
       (
         subst (λ (n : Model). Sound (block_links n)) after (block_block_lists m t some c.args.self.now.blocklists),
@@ -31,5 +31,5 @@ invariant-of-self c =
 pub returns : goal.returns
 returns c =
     let m = tables c.args.self.now.records in
-    let some : 1 ≤ room m.blocks.pool = let e = c.blocks-left.ensures in let n = c.if-blocks-left-eq0.false in omega arith in
-    record { roomy = some; answer = c.make-block.ensures.given; after = c.make-block.ensures.after; kept = block_kept m _ (tables_of c.args.self.now.records) some c.make-block.ensures.after }
+    let some : 1 ≤ room m.blocks.pool = let e = c.blocks_left.ensures in let n = c.if-blocks_left-eq0.false in omega arith in
+    record { roomy = some; answer = c.make_block.ensures.given; after = c.make_block.ensures.after; kept = block_kept m _ (tables_of c.args.self.now.records) some c.make_block.ensures.after }

@@ -11,12 +11,12 @@ use Rattle.forest.proofs.Keeping.{operation_kept}
 use Rattle.forest.proofs.Tables.{tables_of}
 use Rattle.forest.proofs.forest.Forest.make_operation.Goals as goal
 
-pub invariant-of-self : goal.invariant-of-self
-invariant-of-self c =
+pub invariant_of-self : goal.invariant_of-self
+invariant_of-self c =
     let m = tables c.args.self.now.records in
     let t = tables_of c.args.self.now.records in
-    let roomy = c.if-not-has-room.ensures in
-    let after = sym c.make-operation.ensures.after in (
+    let roomy = c.if-not-has_room.ensures in
+    let after = sym c.make_operation.ensures.after in (
       subst (λ (n : Model). Sound (op_links n)) after (made_op_lists m t c.args.shape.kind c.args.name c.args.shape.count roomy c.args.self.now.oplists),
       (
         subst (λ (n : Model). Sound (block_links n)) after (made_block_lists m t c.args.shape.kind c.args.name c.args.shape.count c.args.shape.one roomy c.args.self.now.blocklists),
@@ -30,10 +30,10 @@ invariant-of-self c =
 pub returns : goal.returns
 returns c =
     let m = tables c.args.self.now.records in
-    let roomy = c.if-not-has-room.ensures in
+    let roomy = c.if-not-has_room.ensures in
     record {
       roomy = roomy;
-      answer = c.make-operation.ensures.answer;
-      after = c.make-operation.ensures.after;
-      kept = operation_kept m _ c.args.shape.kind c.args.name c.args.shape.count (tables_of c.args.self.now.records) roomy c.make-operation.ensures.after;
+      answer = c.make_operation.ensures.answer;
+      after = c.make_operation.ensures.after;
+      kept = operation_kept m _ c.args.shape.kind c.args.name c.args.shape.count (tables_of c.args.self.now.records) roomy c.make_operation.ensures.after;
     }

@@ -5,14 +5,14 @@ use Rattle.records.specs.Models.{tables}
 use Rattle.forest.proofs.Frames.{noted_acyclic, noted_block_links, noted_op_links, noted_owned}
 use Rattle.forest.proofs.forest.Forest.set_note.Goals as goal
 
-pub returns-then-not-has-operation : goal.returns-then-not-has-operation
-returns-then-not-has-operation c = (at_dead (tables c.args.self.now.records).operations c.args.op.handle (sym c.if-not-has-operation.ensures), refl)
+pub returns-then-not-has_operation : goal.returns-then-not-has_operation
+returns-then-not-has_operation c = (at_dead (tables c.args.self.now.records).operations c.args.op.handle (sym c.if-not-has_operation.ensures), refl)
 
-pub invariant-of-self : goal.invariant-of-self
-invariant-of-self c =
+pub invariant_of-self : goal.invariant_of-self
+invariant_of-self c =
     let m = tables c.args.self.now.records in
-    let n = tables c.set-note.new.self in
-    let e = c.set-note.ensures in (
+    let n = tables c.set_note.new.self in
+    let e = c.set_note.ensures in (
       subst Sound (sym (noted_op_links m n c.args.op c.args.note e)) c.args.self.now.oplists,
       (
         subst Sound (sym (noted_block_links m n c.args.op c.args.note e)) c.args.self.now.blocklists,

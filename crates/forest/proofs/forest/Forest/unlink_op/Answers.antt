@@ -6,13 +6,13 @@ use Rattle.records.specs.Models.{tables}
 use Rattle.forest.proofs.Frames.{op_edit_links, op_edit_other, op_edit_owned, unlinked_acyclic}
 use Rattle.forest.proofs.forest.Forest.unlink_op.Goals as goal
 
-pub invariant-of-self : goal.invariant-of-self
-invariant-of-self c =
+pub invariant_of-self : goal.invariant_of-self
+invariant_of-self c =
     let m = tables c.args.self.now.records in
-    let n = tables c.unlink-op.new.self in
-    let rest = c.unlink-op.ensures.rest in
-    let moves = (c.unlink-op.ensures.removes c.in-Some.block (sym c.block-of.ensures ∙ c.in-Some.is)).moves in (
-      c.unlink-op.ensures.sound,
+    let n = tables c.unlink_op.new.self in
+    let rest = c.unlink_op.ensures.rest in
+    let moves = (c.unlink_op.ensures.removes c.in-Some.block (sym c.block_of.ensures ∙ c.in-Some.is)).moves in (
+      c.unlink_op.ensures.sound,
       (
         subst Sound (sym (op_edit_links m n rest)) c.args.self.now.blocklists,
         (

@@ -1,7 +1,11 @@
-use Rattle.std.proofs.lemmas.Slice.Eq.{slice_eq-Decides}
+use Rattle.std.proofs.Common.{◌≡◌, Decides, nat_eq, sym, ap, ◌∙◌, subst}
+use Rattle.std.specs.Cmp.Lexicographic.{pointwise, bytes_decides}
+use Rattle.identifier.specs.Identifiers.{text}
 use Rattle.identifier.proofs.Keys.{told}
 use Rattle.identifier.proofs.key.IdentifierPartialEq.eq.Goals as goal
-use Rattle.std.proofs.lemmas.Bool.Decides.{Decides-eqb}
 
 pub returns : goal.returns
-returns c = told c.args.self.now c.args.other.now _ _ _ c.as-bytes.ensures c.as-bytes-2.ensures (slice_eq-Decides Decides-eqb _ _ _ c.eq.ensures)
+returns c = record {
+  value = cc;
+  same = told c.args.self.now c.args.other.now _ _ _ c.as_bytes.ensures c.as_bytes-2.ensures (subst (λ b. Decides b (c.as_bytes.result.now ≡ c.as_bytes-2.result.now)) (sym c.eq.ensures) (bytes_decides _ _));
+}

@@ -9,16 +9,16 @@ use Rattle.records.specs.Views.{all_as, endless_region, loose_block}
 use Rattle.records.specs.Writes.{left, same_regionptr, set_here, set_other, without}
 use Rattle.records.proofs.linking.BlockPtrLinkedList.set_head.Goals as goal
 
-pub index-mut-requires : goal.index-mut-requires
-index-mut-requires c = live_records c.args.ctx.now.regions c.args.c.handle c.requires
+pub index_mut-requires : goal.index_mut-requires
+index_mut-requires c = live_records c.args.ctx.now.regions c.args.c.handle c.requires
 
 pub returns : goal.returns
 returns c =
     let table = c.args.ctx.now.regions in
     let h = c.args.c.handle in
-    let old : Region = c.index-mut.result.now in
+    let old : Region = c.index_mut.result.now in
     let new : Region = record { parent_op = old.parent_op; index = old.index; head = c.args.x; tail = old.tail } in
-    let read = c.index-mut.ensures.value in
+    let read = c.index_mut.ensures.value in
     record {
       sets = record {
         change = record {

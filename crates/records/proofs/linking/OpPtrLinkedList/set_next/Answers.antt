@@ -9,16 +9,16 @@ use Rattle.records.specs.Views.{all_as, endless_block, loose_op}
 use Rattle.records.specs.Writes.{left, same_opptr, set_here, set_other, without}
 use Rattle.records.proofs.linking.OpPtrLinkedList.set_next.Goals as goal
 
-pub index-mut-requires : goal.index-mut-requires
-index-mut-requires c = live_records c.args.ctx.now.operations c.args.n.handle c.requires
+pub index_mut-requires : goal.index_mut-requires
+index_mut-requires c = live_records c.args.ctx.now.operations c.args.n.handle c.requires
 
 pub returns : goal.returns
 returns c =
     let table = c.args.ctx.now.operations in
     let h = c.args.n.handle in
-    let old : Operation = c.index-mut.result.now in
+    let old : Operation = c.index_mut.result.now in
     let new : Operation = record { kind = old.kind; name = old.name; count = old.count; regions = old.regions; note = old.note; next = c.args.x; prev = old.prev; container = old.container } in
-    let read = c.index-mut.ensures.value in
+    let read = c.index_mut.ensures.value in
     record {
       sets = record {
         change = record {

@@ -9,16 +9,16 @@ use Rattle.records.specs.Views.{all_as, endless_block, loose_op}
 use Rattle.records.specs.Writes.{left, same_blockptr, set_here, set_other, without}
 use Rattle.records.proofs.linking.OpPtrLinkedList.set_tail.Goals as goal
 
-pub index-mut-requires : goal.index-mut-requires
-index-mut-requires c = live_records c.args.ctx.now.blocks c.args.c.handle c.requires
+pub index_mut-requires : goal.index_mut-requires
+index_mut-requires c = live_records c.args.ctx.now.blocks c.args.c.handle c.requires
 
 pub returns : goal.returns
 returns c =
     let table = c.args.ctx.now.blocks in
     let h = c.args.c.handle in
-    let old : BasicBlock = c.index-mut.result.now in
+    let old : BasicBlock = c.index_mut.result.now in
     let new : BasicBlock = record { head = old.head; tail = c.args.x; next = old.next; prev = old.prev; container = old.container } in
-    let read = c.index-mut.ensures.value in
+    let read = c.index_mut.ensures.value in
     record {
       sets = record {
         change = record {
