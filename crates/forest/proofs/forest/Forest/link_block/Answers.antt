@@ -54,20 +54,13 @@ invariant_of-self c =
     let n = tables c.insert_block.new.self in
     let p = passed (goal.at.invariant_of-self c).In-Some in
     let rest = c.insert_block.ensures.rest in
-    let moves = c.insert_block.ensures.inserts.moves in (
-      subst Sound (sym (block_edit_links m n rest)) c.args.self.now.oplists,
-      (
-        c.insert_block.ensures.sound,
-        (
-          block_edit_owned m n rest c.args.self.now.owned,
-          (
-            linked_acyclic m n (node.BasicBlock c.args.block) (block_edit_other m n rest c.args.block _ moves) (node.Region c.in-Some.region) (ap (option_map node.Region) moves.here)
-                (region_outside m (node.BasicBlock c.args.block) c.args.spot c.in-Some.region p.into (outside (goal.at.invariant_of-self c).Else-contains)) c.args.self.now.acyclic,
-            tt,
-          ),
-        ),
-      ),
-    )
+    let moves = c.insert_block.ensures.inserts.moves in record {
+      oplists = subst Sound (sym (block_edit_links m n rest)) c.args.self.now.oplists;
+      blocklists = c.insert_block.ensures.sound;
+      owned = block_edit_owned m n rest c.args.self.now.owned;
+      acyclic = linked_acyclic m n (node.BasicBlock c.args.block) (block_edit_other m n rest c.args.block _ moves) (node.Region c.in-Some.region) (ap (option_map node.Region) moves.here)
+                (region_outside m (node.BasicBlock c.args.block) c.args.spot c.in-Some.region p.into (outside (goal.at.invariant_of-self c).Else-contains)) c.args.self.now.acyclic;
+    }
 
 pub returns : goal.returns
 returns c =

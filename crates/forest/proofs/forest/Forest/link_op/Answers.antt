@@ -49,20 +49,13 @@ invariant_of-self c =
     let n = tables c.insert_op.new.self in
     let p = passed (goal.at.invariant_of-self c).In-Some in
     let rest = c.insert_op.ensures.rest in
-    let moves = c.insert_op.ensures.inserts.moves in (
-      c.insert_op.ensures.sound,
-      (
-        subst Sound (sym (op_edit_links m n rest)) c.args.self.now.blocklists,
-        (
-          op_edit_owned m n rest c.args.self.now.owned,
-          (
-            linked_acyclic m n (node.Operation c.args.op) (op_edit_other m n rest c.args.op _ moves) (node.BasicBlock c.in-Some.block) (ap (option_map node.BasicBlock) moves.here)
-                (block_outside m (node.Operation c.args.op) c.args.spot c.in-Some.block p.into (outside (goal.at.invariant_of-self c).Else-contains)) c.args.self.now.acyclic,
-            tt,
-          ),
-        ),
-      ),
-    )
+    let moves = c.insert_op.ensures.inserts.moves in record {
+      oplists = c.insert_op.ensures.sound;
+      blocklists = subst Sound (sym (op_edit_links m n rest)) c.args.self.now.blocklists;
+      owned = op_edit_owned m n rest c.args.self.now.owned;
+      acyclic = linked_acyclic m n (node.Operation c.args.op) (op_edit_other m n rest c.args.op _ moves) (node.BasicBlock c.in-Some.block) (ap (option_map node.BasicBlock) moves.here)
+                (block_outside m (node.Operation c.args.op) c.args.spot c.in-Some.block p.into (outside (goal.at.invariant_of-self c).Else-contains)) c.args.self.now.acyclic;
+    }
 
 pub returns : goal.returns
 returns c =

@@ -17,16 +17,12 @@ invariant_of-self c =
     let m = tables c.args.self.now.records in
     let t = tables_of c.args.self.now.records in
     let after = sym c.make_block.ensures.after in
-    let some : 1 ≤ room m.blocks.pool = let e = c.blocks_left.ensures in let n = c.if-blocks_left-eq0.false in omega arith in (
-      subst (λ (n : Model). Sound (op_links n)) after (block_op_lists m t some c.args.self.now.oplists),
-      (
-        subst (λ (n : Model). Sound (block_links n)) after (block_block_lists m t some c.args.self.now.blocklists),
-        (
-          subst (λ (n : Model). ∥ Owned n ∥₁) after (block_owned m c.args.self.now.owned),
-          (subst (λ (n : Model). Acyclic (parent n)) after (block_acyclic m t some c.args.self.now.acyclic), tt),
-        ),
-      ),
-    )
+    let some : 1 ≤ room m.blocks.pool = let e = c.blocks_left.ensures in let n = c.if-blocks_left-eq0.false in omega arith in record {
+      oplists = subst (λ (n : Model). Sound (op_links n)) after (block_op_lists m t some c.args.self.now.oplists);
+      blocklists = subst (λ (n : Model). Sound (block_links n)) after (block_block_lists m t some c.args.self.now.blocklists);
+      owned = subst (λ (n : Model). ∥ Owned n ∥₁) after (block_owned m c.args.self.now.owned);
+      acyclic = subst (λ (n : Model). Acyclic (parent n)) after (block_acyclic m t some c.args.self.now.acyclic);
+    }
 
 pub returns : goal.returns
 returns c =

@@ -16,16 +16,12 @@ invariant_of-self c =
     let m = tables c.args.self.now.records in
     let t = tables_of c.args.self.now.records in
     let roomy = c.if-not-has_room.ensures in
-    let after = sym c.make_operation.ensures.after in (
-      subst (λ (n : Model). Sound (op_links n)) after (made_op_lists m t c.args.shape.kind c.args.name c.args.shape.count roomy c.args.self.now.oplists),
-      (
-        subst (λ (n : Model). Sound (block_links n)) after (made_block_lists m t c.args.shape.kind c.args.name c.args.shape.count c.args.shape.one roomy c.args.self.now.blocklists),
-        (
-          subst (λ (n : Model). ∥ Owned n ∥₁) after (made_owned m t c.args.shape.kind c.args.name c.args.shape.count roomy c.args.self.now.owned),
-          (subst (λ (n : Model). Acyclic (parent n)) after (made_acyclic m t c.args.shape.kind c.args.name c.args.shape.count c.args.shape.one roomy c.args.self.now.acyclic), tt),
-        ),
-      ),
-    )
+    let after = sym c.make_operation.ensures.after in record {
+      oplists = subst (λ (n : Model). Sound (op_links n)) after (made_op_lists m t c.args.shape.kind c.args.name c.args.shape.count roomy c.args.self.now.oplists);
+      blocklists = subst (λ (n : Model). Sound (block_links n)) after (made_block_lists m t c.args.shape.kind c.args.name c.args.shape.count c.args.shape.one roomy c.args.self.now.blocklists);
+      owned = subst (λ (n : Model). ∥ Owned n ∥₁) after (made_owned m t c.args.shape.kind c.args.name c.args.shape.count roomy c.args.self.now.owned);
+      acyclic = subst (λ (n : Model). Acyclic (parent n)) after (made_acyclic m t c.args.shape.kind c.args.name c.args.shape.count c.args.shape.one roomy c.args.self.now.acyclic);
+    }
 
 pub returns : goal.returns
 returns c =

@@ -12,10 +12,9 @@ pub invariant_of-self : goal.invariant_of-self
 invariant_of-self c =
     let m = tables c.args.self.now.records in
     let n = tables c.set_note.new.self in
-    let e = c.set_note.ensures in (
-      subst Sound (sym (noted_op_links m n c.args.op c.args.note e)) c.args.self.now.oplists,
-      (
-        subst Sound (sym (noted_block_links m n c.args.op c.args.note e)) c.args.self.now.blocklists,
-        (noted_owned m n c.args.op c.args.note e c.args.self.now.owned, (noted_acyclic m n c.args.op c.args.note e c.args.self.now.acyclic, tt)),
-      ),
-    )
+    let e = c.set_note.ensures in record {
+      oplists = subst Sound (sym (noted_op_links m n c.args.op c.args.note e)) c.args.self.now.oplists;
+      blocklists = subst Sound (sym (noted_block_links m n c.args.op c.args.note e)) c.args.self.now.blocklists;
+      owned = noted_owned m n c.args.op c.args.note e c.args.self.now.owned;
+      acyclic = noted_acyclic m n c.args.op c.args.note e c.args.self.now.acyclic;
+    }

@@ -11,13 +11,9 @@ invariant_of-self c =
     let m = tables c.args.self.now.records in
     let n = tables c.unlink_block.new.self in
     let rest = c.unlink_block.ensures.rest in
-    let moves = (c.unlink_block.ensures.removes c.in-Some.region (sym c.region_of.ensures ∙ c.in-Some.is)).moves in (
-      subst Sound (sym (block_edit_links m n rest)) c.args.self.now.oplists,
-      (
-        c.unlink_block.ensures.sound,
-        (
-          block_edit_owned m n rest c.args.self.now.owned,
-          (unlinked_acyclic m n (node.BasicBlock c.args.block) (block_edit_other m n rest c.args.block _ moves) (ap (option_map node.Region) moves.here) c.args.self.now.acyclic, tt),
-        ),
-      ),
-    )
+    let moves = (c.unlink_block.ensures.removes c.in-Some.region (sym c.region_of.ensures ∙ c.in-Some.is)).moves in record {
+      oplists = subst Sound (sym (block_edit_links m n rest)) c.args.self.now.oplists;
+      blocklists = c.unlink_block.ensures.sound;
+      owned = block_edit_owned m n rest c.args.self.now.owned;
+      acyclic = unlinked_acyclic m n (node.BasicBlock c.args.block) (block_edit_other m n rest c.args.block _ moves) (ap (option_map node.Region) moves.here) c.args.self.now.acyclic;
+    }

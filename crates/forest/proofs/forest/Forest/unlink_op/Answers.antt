@@ -11,13 +11,9 @@ invariant_of-self c =
     let m = tables c.args.self.now.records in
     let n = tables c.unlink_op.new.self in
     let rest = c.unlink_op.ensures.rest in
-    let moves = (c.unlink_op.ensures.removes c.in-Some.block (sym c.block_of.ensures ∙ c.in-Some.is)).moves in (
-      c.unlink_op.ensures.sound,
-      (
-        subst Sound (sym (op_edit_links m n rest)) c.args.self.now.blocklists,
-        (
-          op_edit_owned m n rest c.args.self.now.owned,
-          (unlinked_acyclic m n (node.Operation c.args.op) (op_edit_other m n rest c.args.op _ moves) (ap (option_map node.BasicBlock) moves.here) c.args.self.now.acyclic, tt),
-        ),
-      ),
-    )
+    let moves = (c.unlink_op.ensures.removes c.in-Some.block (sym c.block_of.ensures ∙ c.in-Some.is)).moves in record {
+      oplists = c.unlink_op.ensures.sound;
+      blocklists = subst Sound (sym (op_edit_links m n rest)) c.args.self.now.blocklists;
+      owned = op_edit_owned m n rest c.args.self.now.owned;
+      acyclic = unlinked_acyclic m n (node.Operation c.args.op) (op_edit_other m n rest c.args.op _ moves) (ap (option_map node.BasicBlock) moves.here) c.args.self.now.acyclic;
+    }

@@ -17,7 +17,12 @@ invariant_of-self c =
     let room : 256 ≤ vec_capacity c.push_reserved.new.self = omega (arith, c.push_reserved.ensures.capacity, c.args.self.now.room) in
     let few : vec_len c.push_reserved.new.self ≤ 256 = omega (arith, c.push_reserved.ensures.len, lt) in
     let numbered = follows s (vec_items c.push_reserved.new.self) xs c.insert.new.entries c.args.name c.args.number c.insert.result same long c.push_reserved.ensures.items next ok (missing s xs c.args.name same c.requires.new) c.insert.ensures.meaning in
-    (room, (few, (s.long, (numbered, tt))))
+    record {
+      room = room;
+      few = few;
+      long = s.long;
+      numbered = numbered;
+    }
 
 pub returns : goal.returns
 returns c = held_more c.args.self.now (vec_items c.push_reserved.new.self) c.args.name c.push_reserved.ensures.items

@@ -6,4 +6,9 @@ pub invariant_of-result : goal.invariant_of-result
 invariant_of-result c =
     let list = c.in_ok-list.ensures in
     let few : vec_len c.in_ok-list.list ≤ 256 = omega (arith, list.len) in
-    (list.capacity, (few, (c.in_ok-entries.ensures.len, (nothing_held _ _ list.items (c.in_ok-entries.ensures.items_if_clones_equal (λ y h. search rules)), tt))))
+    record {
+      room = list.capacity;
+      few = few;
+      long = c.in_ok-entries.ensures.len;
+      numbered = nothing_held _ _ list.items (c.in_ok-entries.ensures.items_if_clones_equal (λ y h. search rules));
+    }
