@@ -2,8 +2,8 @@ use Rattle.std.proofs.Common.{◌≡◌, refl}
 use Rattle.ir.proofs.Numbering.{block_linked_held, numbers_held, same_context}
 use Rattle.ir.proofs.context.Context.insert_block.Goals as goal
 
-pub invariant-of-self : goal.invariant-of-self
-invariant-of-self c = (∣ block_linked_held c.args.self.now.forest c.link-block.new.self _ (numbers_held _ _ c.args.self.now.numbers) c.args.block c.args.spot c.link-block.result c.link-block.ensures ∣₁, tt)
+pub invariant_of-self : goal.invariant_of-self
+invariant_of-self c = record { numbers = ∣ block_linked_held c.args.self.now.forest c.link_block.new.self _ (numbers_held _ _ c.args.self.now.numbers) c.args.block c.args.spot c.link_block.result c.link_block.ensures ∣₁ }
 
 pub returns-in-Err : goal.returns-in-Err
 returns-in-Err c = (c.in-Err.ensures.0, same_context c.args.self.now _ c.in-Err.ensures.1 refl)

@@ -1,5 +1,5 @@
 use Rattle.ir.proofs.Numbering.{fresh_held}
 use Rattle.ir.proofs.context.Context.new.Goals as goal
 
-pub invariant-of-result : goal.invariant-of-result
-invariant-of-result c = (∣ fresh_held c.in-ok-forest.forest _ c.in-ok-forest.ensures ∣₁, tt)
+pub invariant_of-result : goal.invariant_of-result
+invariant_of-result c = record { numbers = ∣ fresh_held c.in_ok-forest.forest _ c.in_ok-forest.ensures ∣₁ }
