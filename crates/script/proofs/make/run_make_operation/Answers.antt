@@ -8,8 +8,8 @@ pub returns : goal.returns
 returns c =
     let value = c.args.value.now in
     record {
-      few = c.make-operation.ensures.few;
+      few = c.make_operation.ensures.few;
       answered =
-          long_enough c.args.session.now value _ (answer_of c.make-operation.new.nodes c.make-operation.result) c.make-operation.new.session
-          c.if-value-lt2.false (take_all (length value - 2) (drop 2 value) (simp length-drop (omega arith))) c.make-operation.ensures.answered;
+          long_enough c.args.session.now value _ (answer_of c.make_operation.new.nodes c.make_operation.result) c.make_operation.new.session
+          c.if-value-lt2.false (take_all (length value - 2) (drop 2 value) (simp length-drop (omega arith))) c.make_operation.ensures.answered;
     }

@@ -12,8 +12,8 @@ put-requires t c = omega (arith, decimal_nonempty c.args.n (omega arith))
 pub returns-then-n-lt10 : goal.returns-then-n-lt10
 returns-then-n-lt10 t c = printed_as (sym (decimal_digit c.args.n c.if-n-lt10.true)) c.put.ensures
 
-pub put-digits-next-requires : goal.put-digits-next-requires
-put-digits-next-requires t c =
+pub put_digits-next-requires : goal.put_digits-next-requires
+put_digits-next-requires t c =
     (omega arith, omega (arith, one_more c.args.n c.if-n-lt10.false (omega arith)))
 
 pub put-requires-2 : goal.put-requires-2
@@ -21,4 +21,4 @@ put-requires-2 t c = omega (arith, one_more c.args.n c.if-n-lt10.false (omega ar
 
 pub returns : goal.returns
 returns t c =
-    printed_as (sym (decimal_step c.args.n c.if-n-lt10.false (omega arith))) (printed_then c.put-digits-next.ensures c.put-2.ensures)
+    printed_as (sym (decimal_step c.args.n c.if-n-lt10.false (omega arith))) (printed_then c.put_digits-next.ensures c.put-2.ensures)

@@ -6,9 +6,9 @@ pub returns : goal.returns
 returns c = record {
   line =
       whole_line (simp (append_assoc, spaced_append))
-      (printed_then c.put-number-after-place.ensures.wrote
-      (printed_then c.put-text-after-word.ensures
-      (printed_then c.put-nodes-after-nodes.ensures.wrote
-      (printed_then c.put-close-after-close.ensures.wrote c.put.ensures))));
+      (printed_then c.put_number-after_place.ensures.wrote
+      (printed_then c.put_text-after_word.ensures
+      (printed_then c.put_nodes-after_nodes.ensures.wrote
+      (printed_then c.put_close-after_close.ensures.wrote c.put.ensures))));
   room = omega arith;
 }

@@ -12,7 +12,7 @@ more ns i d lt =
 
 pub loop-node-preserved : goal.loop-node-preserved
 loop-node-preserved c =
-    (printed_as (more _ _ _ c.loop-node-test.true) (printed_then c.loop-node.invariant.0 c.put-node-next.ensures.wrote), omega arith)
+    (printed_as (more _ _ _ c.loop-node-test.true) (printed_then c.loop-node.invariant.0 c.put_node-next.ensures.wrote), omega arith)
 
 pub returns : goal.returns
 returns c = record {

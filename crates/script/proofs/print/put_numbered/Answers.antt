@@ -4,6 +4,6 @@ use Rattle.script.proofs.print.put_numbered.Goals as goal
 
 pub returns : goal.returns
 returns c = record {
-  wrote = printed_then c.put-after-space.ensures (printed_then c.put-after-letter.ensures c.put-number.ensures.wrote);
+  wrote = printed_then c.put-after_space.ensures (printed_then c.put-after_letter.ensures c.put_number.ensures.wrote);
   room = omega arith;
 }

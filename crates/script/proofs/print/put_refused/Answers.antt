@@ -7,8 +7,8 @@ pub returns : goal.returns
 returns c = record {
   line =
       whole_line (simp (append_assoc, append-nil))
-      (printed_then c.put-number-after-place.ensures.wrote
-      (printed_then c.put-text-after-word.ensures
-      (printed_then (printed_as (ap decimal c.number.ensures) c.put-number-after-number.ensures.wrote) c.put.ensures)));
+      (printed_then c.put_number-after_place.ensures.wrote
+      (printed_then c.put_text-after_word.ensures
+      (printed_then (printed_as (ap decimal c.number.ensures) c.put_number-after_number.ensures.wrote) c.put.ensures)));
   room = omega arith;
 }

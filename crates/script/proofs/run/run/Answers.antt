@@ -12,6 +12,6 @@ returns-in-None c = record {
 pub returns-in-Some : goal.returns-in-Some
 unfolding ByteRun
 returns-in-Some c = record {
-  few = c.run-tag.ensures.few;
-  answered = inr (record { tag = c.in-Some.tag; coded = c.in-Some.ensures; ran = c.run-tag.ensures.answered });
+  few = c.run_tag.ensures.few;
+  answered = inr (record { tag = c.in-Some.tag; coded = c.in-Some.ensures; ran = c.run_tag.ensures.answered });
 }
