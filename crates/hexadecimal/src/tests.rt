@@ -6,7 +6,7 @@ use std::test::Fail;
 fn digits_in_pairs_are_bytes(rt: HostRuntime) -> Result<(), Fail> {
     let mut bytes = Vec::new(rt.alloc());
     decode(b"01 00ff,aB\tCd\r\n# 7g\n09", &mut bytes)?;
-    assert!(rt; bytes.as_slice() == b"\x01\x00\xff\xab\xcd\x09");
+    assert!(rt; bytes.as_slice() == b"\x01\x00\xff\xab\xcd\x09".as_slice());
     Ok(())
 }
 

@@ -25,7 +25,7 @@ fn a_digit_first_or_no_byte_is_malformed(rt: HostRuntime) -> Result<(), Fail> {
 #[test]
 fn an_identifier_keeps_its_bytes(rt: HostRuntime) -> Result<(), Fail> {
     let name = Identifier::try_new(b"_a9")?;
-    assert!(rt; name.as_bytes() == b"_a9");
+    assert!(rt; name.as_bytes() == b"_a9".as_slice());
     Ok(())
 }
 

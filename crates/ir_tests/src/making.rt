@@ -40,7 +40,7 @@ fn a_symbol_keeps_its_name(rt: HostRuntime) -> Result<(), Fail> {
     assert!(rt; context.names_held() == 2);
     match context.name(made.operation)? {
         Some(name) => {
-            assert!(rt; name.as_bytes() == b"put");
+            assert!(rt; name.as_bytes() == b"put".as_slice());
             Ok(())
         },
         None => Err(Fail::new("the name is lost")),

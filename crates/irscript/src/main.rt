@@ -8,13 +8,16 @@ mod options;
 use input::read_script;
 use lines::print_lines;
 use options::{Task, read_task};
+use std::process::ExitCode;
 
-fn main(rt: HostRuntime) -> anyhow::Result<()> {
-    let done = run(&rt);
-    if let Err(error) = &done {
-        let _ = eprintln!(rt; "irscript: {error}");
+fn main(rt: HostRuntime) -> ExitCode {
+    match run(&rt) {
+        Ok(()) => ExitCode::SUCCESS,
+        Err(error) => {
+            let _ = eprintln!(rt; "irscript: {error}");
+            ExitCode::FAILURE
+        }
     }
-    done
 }
 
 // Does what the arguments ask for.

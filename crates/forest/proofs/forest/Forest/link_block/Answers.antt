@@ -59,7 +59,7 @@ invariant_of-self c =
       blocklists = c.insert_block.ensures.sound;
       owned = block_edit_owned m n rest c.args.self.now.owned;
       acyclic = linked_acyclic m n (node.BasicBlock c.args.block) (block_edit_other m n rest c.args.block _ moves) (node.Region c.in-Some.region) (ap (option_map node.Region) moves.here)
-                (region_outside m (node.BasicBlock c.args.block) c.args.spot c.in-Some.region p.into (outside (goal.at.invariant_of-self c).Else-contains)) c.args.self.now.acyclic;
+          (region_outside m (node.BasicBlock c.args.block) c.args.spot c.in-Some.region p.into (outside (goal.at.invariant_of-self c).Else-contains)) c.args.self.now.acyclic;
     }
 
 pub returns : goal.returns

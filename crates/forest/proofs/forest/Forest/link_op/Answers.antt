@@ -54,7 +54,7 @@ invariant_of-self c =
       blocklists = subst Sound (sym (op_edit_links m n rest)) c.args.self.now.blocklists;
       owned = op_edit_owned m n rest c.args.self.now.owned;
       acyclic = linked_acyclic m n (node.Operation c.args.op) (op_edit_other m n rest c.args.op _ moves) (node.BasicBlock c.in-Some.block) (ap (option_map node.BasicBlock) moves.here)
-                (block_outside m (node.Operation c.args.op) c.args.spot c.in-Some.block p.into (outside (goal.at.invariant_of-self c).Else-contains)) c.args.self.now.acyclic;
+          (block_outside m (node.Operation c.args.op) c.args.spot c.in-Some.block p.into (outside (goal.at.invariant_of-self c).Else-contains)) c.args.self.now.acyclic;
     }
 
 pub returns : goal.returns
