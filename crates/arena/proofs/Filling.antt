@@ -8,7 +8,7 @@ use Rattle.arena.specs.declared.slot.Slot.{Slot}
 use Rattle.arena.specs.declared.slot.State.TheVariants.{Live}
 use Rattle.arena.specs.Pools.{last_version, unused, Pool, slot_at, live_slot, live, room, next_place, next, take_place, raised, free_place, Sound}
 use Rattle.arena.specs.Placed.{pool}
-use Rattle.arena.proofs.Pooling.{whole, next_within, taken_most, take_sound, free_sound, freed_fits, live_within, unused_sound}
+use Rattle.arena.proofs.Pooling.{whole, next_within, taken_most, freed_fits, live_within}
 
 -- what always holds of the places, out of the struct's ghost field
 pub sound : (s : Places) → Sound (pool s)

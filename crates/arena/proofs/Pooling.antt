@@ -1,10 +1,10 @@
 -- Taking and freeing keep what always holds of the places. Assumes nothing.
-use Rattle.std.proofs.Common.{◌≡◌, ℕ, zero, suc, ◌+◌, ◌-◌, ◌*◌, ◌<◌, ◌≤◌, Bool, true, false, cond, ◌&&◌, eqb, List, [], ◌∷◌, ◌++◌, length, get_or, take, set, replicate, sum_by, sym, refl, ap, ◌∙◌, subst, ⊎_elim, arith, eq-eqb}
+use Rattle.std.proofs.Common.{◌≡◌, ℕ, zero, suc, ◌+◌, ◌-◌, ◌<◌, ◌≤◌, Bool, true, false, cond, eqb, List, [], ◌∷◌, ◌++◌, length, get_or, take, set, replicate, sum_by, sym, refl, ap, ◌∙◌, subst, ⊎_elim, arith, eq-eqb}
 use mathlib.Core.Logic.{∥∥₁_elim}
 use native.Mathlib.Bridge.{le_prop}
 use native.Mathlib.Nat.{ℕ_set}
 use Rattle.std.specs.List.{AllByRecursion as All}
-use Rattle.std.proofs.lemmas.List.{get_or_past, get_or-set_same, get_or-set_other, get_or-take, get_or_push, get_or_append_left, get_or-replicate, length-set, length_push, length-take-le, length-replicate}
+use Rattle.std.proofs.lemmas.List.{get_or_past, get_or-set_same, get_or-set_other, get_or-take, get_or_push, get_or_append_left, length-set, length_push, length-take-le, length-replicate}
 use Rattle.std.proofs.lemmas.List.Sums.{sum_by-set, sum_by-cons}
 use Rattle.std.proofs.ByRecursion.{sum_by_le}
 use Rattle.std.proofs.lemmas.Bool.{cases_eq, cases_lt, eqb-true, eqb-false, ne_eqb, and_parts}
@@ -12,7 +12,7 @@ use Rattle.arena.specs.declared.handle.Handle.{Handle}
 use Rattle.arena.specs.declared.slot.Slot.{Slot}
 use Rattle.arena.specs.declared.slot.State.{State}
 use Rattle.arena.specs.declared.slot.State.TheVariants.{Vacant, Live, Retired}
-use Rattle.arena.specs.Pools.{last_version, unused, Pool, unused_pool, slot_at, is_live, live_slot, live, room, next_place, next, take_place, raised, free_place, vacancy_of, vacancy, wear_of, wear, Freed, Never, Sound}
+use Rattle.arena.specs.Pools.{last_version, unused, Pool, unused_pool, slot_at, is_live, live_slot, live, room, next_place, take_place, free_place, vacancy_of, vacancy, wear_of, wear, Freed, Sound}
 
 -- Out of the truncated ghost field: each part is an order or an equation of numbers.
 pub whole : (p : Pool) → ∥ Sound p ∥₁ → Sound p

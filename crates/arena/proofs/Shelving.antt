@@ -1,7 +1,7 @@
 -- A making and an end change what one handle names, and nothing else. Assumes nothing.
-use Rattle.std.proofs.Common.{◌≡◌, ℕ, ◌+◌, ◌<◌, ◌≤◌, Bool, true, false, cond, ◌&&◌, eqb, List, [], ◌∷◌, map, length, get_or, set, Some, None, vec_items, vec_len, Option, sym, refl, ap, ◌∙◌, subst, ⊎_elim, arith}
-use Rattle.std.proofs.lemmas.List.{get_or_past, get_or-map, get_or-set_same, get_or-set_other, length-map, length-set, map-set}
-use Rattle.std.proofs.lemmas.Bool.{cases_eq, cases_lt, eq-eqb, ne_eqb, and_left, and_right}
+use Rattle.std.proofs.Common.{◌≡◌, ℕ, ◌+◌, ◌<◌, Bool, true, false, cond, List, map, length, get_or, set, Some, None, vec_items, vec_len, Option, sym, refl, ap, ◌∙◌, subst, ⊎_elim, arith}
+use Rattle.std.proofs.lemmas.List.{get_or-map, get_or-set_same, get_or-set_other, length-map, length-set, map-set}
+use Rattle.std.proofs.lemmas.Bool.{cases_eq, eq-eqb, ne_eqb, and_left, and_right}
 use Rattle.arena.specs.declared.arena.Arena.{Arena}
 use Rattle.arena.specs.declared.handle.Handle.{Handle}
 use Rattle.arena.specs.declared.places.Places.{Places}
@@ -9,7 +9,7 @@ use Rattle.arena.specs.declared.slot.Slot.{Slot}
 use Rattle.arena.specs.declared.slot.State.{State}
 use Rattle.arena.specs.declared.slot.State.TheVariants.{Vacant, Live, Retired}
 use Rattle.arena.specs.Placed.{pool, Taken, Released}
-use Rattle.arena.specs.Pools.{last_version, unused, Pool, slot_at, is_live, live_slot, live, room, next_place, next, take_place, raised, free_place, vacancy_of, vacancy, Sound}
+use Rattle.arena.specs.Pools.{unused, Pool, slot_at, is_live, live_slot, live, room, next_place, next, take_place, raised, free_place, vacancy_of, vacancy, Sound}
 use Rattle.arena.specs.Shelves.{Shelf, item, at, entered, ended, Only}
 use Rattle.arena.specs.Recorded.{shelf, Entered, Ended}
 use Rattle.arena.proofs.Filling.{sound}

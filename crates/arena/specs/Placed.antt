@@ -1,5 +1,5 @@
 -- What the calls on the places of one kind do.
-use Rattle.std.specs.Prelude.{◌≡◌, ℕ, ◌<◌, Bool, true, false, cond, Some, None, vec_items, Option}
+use Rattle.std.specs.Prelude.{◌≡◌, ◌<◌, Bool, true, false, Some, None, vec_items, Option}
 use Rattle.arena.specs.declared.handle.Handle.{Handle}
 use Rattle.arena.specs.declared.places.Places.{Places}
 use Rattle.arena.specs.Pools.{Pool, room, next, live, take_place, free_place}

@@ -1,9 +1,9 @@
 -- What the calls on records of one kind do.
-use Rattle.std.specs.Prelude.{◌≡◌, ℕ, ◌<◌, Bool, true, false, Some, None, vec_items, Option}
+use Rattle.std.specs.Prelude.{◌≡◌, ◌<◌, Bool, true, false, Some, None, vec_items, Option}
 use Rattle.arena.specs.declared.arena.Arena.{Arena}
 use Rattle.arena.specs.declared.handle.Handle.{Handle}
 use Rattle.arena.specs.Placed.{pool}
-use Rattle.arena.specs.Pools.{Pool, live, next, room}
+use Rattle.arena.specs.Pools.{live, next, room}
 use Rattle.arena.specs.Shelves.{Shelf, at, ended, entered, Only}
 
 -- what an arena means

@@ -1,7 +1,7 @@
 -- Records of one kind, each in its place.
-use Rattle.std.specs.Prelude.{◌≡◌, ℕ, ◌<◌, true, false, cond, List, map, Some, None, Option, ◌≢◌, slice_index_or, slice_set}
+use Rattle.std.specs.Prelude.{◌≡◌, ℕ, cond, List, map, Some, None, Option, ◌≢◌, slice_index_or, slice_set}
 use Rattle.arena.specs.declared.handle.Handle.{Handle}
-use Rattle.arena.specs.Pools.{Pool, live, next, next_place, take_place, free_place}
+use Rattle.arena.specs.Pools.{Pool, live, next_place, take_place, free_place}
 
 -- the places of one kind with the records that stand in them
 pub record Shelf (T : Type 0) : Type 0 where

@@ -1,5 +1,5 @@
 -- Makings keep that every climb ends: what is new stands in new nodes alone. Assumes nothing.
-use Rattle.std.proofs.Common.{◌≡◌, ℕ, ◌<◌, ◌≤◌, Bool, true, false, cond, ◌⊎◌, Some, None, Option, sym, refl, ap, ◌∙◌, inl, inr, ⊎_elim, arith}
+use Rattle.std.proofs.Common.{◌≡◌, ℕ, ◌<◌, ◌≤◌, Bool, true, false, cond, ◌⊎◌, Some, None, Option, sym, ap, ◌∙◌, inl, inr, ⊎_elim, arith}
 use mathlib.Core.Logic.{∥∥₁_map}
 use Rattle.std.specs.Option.{option_map}
 use Rattle.arena.specs.declared.handle.Handle.{Handle}
@@ -21,7 +21,7 @@ use Rattle.records.specs.Models.{Untouched, Model, next_op, next_region}
 use Rattle.records.specs.Nodes.{parent}
 use Rattle.records.specs.Views.{part}
 use Rattle.forest.proofs.Kept.{NewBody, body_more, loose_new, unused_dead}
-use Rattle.forest.proofs.Listed.{MadeRegion, More, clash, decide, more_none, more_one, more_regions}
+use Rattle.forest.proofs.Listed.{More, clash, decide, more_none, more_one, more_regions}
 use Rattle.forest.proofs.Tables.{Tables}
 
 -- the node is live

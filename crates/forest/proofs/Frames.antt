@@ -1,5 +1,5 @@
 -- What notes and edits of links leave as it was: the other kind of link, and which region is whose. Assumes nothing.
-use Rattle.std.proofs.Common.{◌≡◌, ℕ, Bool, ◌⊎◌, List, Some, None, Option, sym, refl, ap, ◌∙◌, subst, inl, inr}
+use Rattle.std.proofs.Common.{◌≡◌, ℕ, Bool, List, Some, None, Option, sym, refl, ap, ◌∙◌, subst, inl, inr}
 use mathlib.Core.Path.{fun_ext}
 use mathlib.Core.Logic.{∥∥₁_map}
 use Rattle.std.specs.Option.{option_map}
@@ -18,7 +18,7 @@ use Rattle.records.specs.declared.ir_node.IRNode.TheVariants as node
 use Rattle.records.specs.declared.operation.Operation.{Operation}
 use Rattle.records.specs.declared.region.Region.{Region}
 use Rattle.records.specs.Models.{Model, operation_at, region_at}
-use Rattle.records.specs.Nodes.{Belongs, Has, Owned, owner, parent, regions_of}
+use Rattle.records.specs.Nodes.{Belongs, Has, Owned, parent, regions_of}
 use Rattle.records.specs.Notes.{NotedIn, noted}
 use Rattle.records.specs.Views.{block_links, but_block_links, but_op_links, endless_block, endless_region, loose_block, loose_op, op_links, part}
 use Rattle.records.proofs.Rests.{same_mapped, same_part, same_pool, was}

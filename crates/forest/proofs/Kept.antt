@@ -1,15 +1,15 @@
 -- Each making leaves links that describe lists. Assumes nothing.
-use Rattle.std.proofs.Common.{◌≡◌, ℕ, ◌<◌, ◌≤◌, Bool, true, false, cond, ◌⊎◌, List, [], ◌∷◌, Some, None, Option, sym, refl, ap, ◌∙◌, subst, inl, inr, arith}
+use Rattle.std.proofs.Common.{◌≡◌, ℕ, ◌<◌, ◌≤◌, Bool, true, false, cond, List, [], ◌∷◌, Some, None, Option, sym, ap, ◌∙◌, subst, inl, arith}
 use mathlib.Core.Logic.{∥∥₁_elim, ∥∥₁_prop}
 use Rattle.std.specs.Option.{option_to_list}
 use Rattle.arena.specs.declared.handle.Handle.{Handle}
 use Rattle.arena.specs.Pools.{live, next, room}
-use Rattle.arena.specs.Shelves.{Shelf, at, entered}
+use Rattle.arena.specs.Shelves.{Shelf, at}
 use Rattle.arena.specs.declared.slot.Slot.{Slot}
 use Rattle.arena.specs.Pools.{Pool, live_slot, unused_pool}
 use Rattle.arena.proofs.Pooling.{unused_at}
 use Rattle.arena.proofs.Shelving.{enter_only, live_made, next_dead}
-use Rattle.linked_list.specs.Links.{Chain, Holds, In, Sound, View}
+use Rattle.linked_list.specs.Links.{Chain, In, Sound, View}
 use Rattle.linked_list.proofs.Grows.{Placed}
 use Rattle.records.specs.declared.basic_block.BasicBlock.{BasicBlock}
 use Rattle.records.specs.declared.handles.BlockPtr.{BlockPtr}
@@ -18,12 +18,12 @@ use Rattle.records.specs.declared.handles.RegionPtr.{RegionPtr}
 use Rattle.records.specs.declared.kind.Kind.{Kind}
 use Rattle.records.specs.declared.operation.Operation.{Operation}
 use Rattle.records.specs.declared.region.Region.{Region}
-use Rattle.records.specs.Makings.{Roomy, blocks_needed, body_of, new_block, new_operation, new_region, regions_made, with_block, with_body, with_operation, with_regions}
+use Rattle.records.specs.Makings.{Roomy, blocks_needed, body_of, new_block, new_operation, regions_made, with_block, with_body, with_operation, with_regions}
 use Rattle.records.specs.Models.{Model, next_block, next_op, next_region}
 use Rattle.records.specs.Views.{block_links, op_links, part}
-use Rattle.forest.proofs.Listed.{Made, MadeRegion, More, NewLists, block_lists, blocks_hold, more_none, more_one, more_regions, clash, no_some, not_held, ops_hold}
+use Rattle.forest.proofs.Listed.{Made, MadeRegion, More, NewLists, block_lists, blocks_hold, more_none, more_one, more_regions, clash, no_some, ops_hold}
 use Rattle.records.specs.Writes.{same_blockptr, same_regionptr}
-use Rattle.forest.proofs.Tables.{Even, Tables}
+use Rattle.forest.proofs.Tables.{Tables}
 
 -- the body of a table
 abbrev pub NewBody : Bool → Model → Handle → BasicBlock → Type 0

@@ -1,26 +1,23 @@
 -- Makings keep the links as lists: what is new stands in no list, but for a table's body, the one block of its region.
 -- Assumes nothing.
-use Rattle.std.proofs.Common.{◌≡◌, ℕ, zero, suc, ◌+◌, ◌<◌, ◌≤◌, Bool, true, false, cond, ◌⊎◌, List, [], ◌∷◌, length, Some, None, Option, sym, refl, ap, ◌∙◌, subst, inl, inr, ⊎_elim, arith}
-use mathlib.Core.Logic.{∥∥₁_elim, ∥∥₁_prop}
+use Rattle.std.proofs.Common.{◌≡◌, ℕ, zero, suc, ◌<◌, ◌≤◌, Bool, true, false, cond, ◌⊎◌, List, [], length, Some, None, Option, sym, refl, ap, ◌∙◌, subst, inl, inr, ⊎_elim, arith}
 use Rattle.std.proofs.lemmas.List.{length-set}
-use Rattle.std.specs.Option.{option_to_list}
 use Rattle.arena.specs.declared.handle.Handle.{Handle}
 use Rattle.arena.specs.Pools.{live, next, room, Sound}
 use Rattle.arena.specs.Shelves.{Shelf, at, entered}
-use Rattle.arena.proofs.Shelving.{enter_keeps, enter_live, enter_only, live_made, next_dead, take_live_other, take_long}
-use Rattle.linked_list.specs.Links.{View, In, Chain, Holds}
-use Rattle.linked_list.specs.Links.{Sound as Lists}
-use Rattle.linked_list.proofs.Grows.{Grows, Kept, Placed, Same, grows_holds}
+use Rattle.arena.proofs.Shelving.{enter_keeps, enter_live, enter_only, take_live_other, take_long}
+use Rattle.linked_list.specs.Links.{Chain, Holds}
+use Rattle.linked_list.proofs.Grows.{Grows, Placed, grows_holds}
 use Rattle.records.specs.declared.basic_block.BasicBlock.{BasicBlock}
 use Rattle.records.specs.declared.handles.BlockPtr.{BlockPtr}
 use Rattle.records.specs.declared.handles.OpPtr.{OpPtr}
 use Rattle.records.specs.declared.handles.RegionPtr.{RegionPtr}
 use Rattle.records.specs.declared.operation.Operation.{Operation}
 use Rattle.records.specs.declared.region.Region.{Region}
-use Rattle.records.specs.Makings.{new_block, new_region, with_regions}
+use Rattle.records.specs.Makings.{new_region, with_regions}
 use Rattle.records.specs.Models.{Model}
 use Rattle.records.specs.Views.{block_links, op_links, part}
-use Rattle.records.proofs.Regions.{Grown, regions_grown}
+use Rattle.records.proofs.Regions.{regions_grown}
 use Rattle.forest.proofs.Tables.{Even}
 use Rattle.records.specs.Writes.{handles}
 

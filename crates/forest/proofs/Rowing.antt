@@ -1,5 +1,5 @@
 -- The tests of a linking: what passed them, and which rows then do not fit. Assumes nothing.
-use Rattle.std.proofs.Common.{◌≡◌, true, false, ◌⊎◌, is_some, Some, None, sym, ◌∙◌, ⊎_elim}
+use Rattle.std.proofs.Common.{◌≡◌, true, false, is_some, Some, None, sym, ◌∙◌, ⊎_elim}
 use Rattle.linked_list.specs.declared.spot.Spot.{Spot}
 use Rattle.linked_list.specs.Edits.{spot_in, spot_live}
 use Rattle.linked_list.specs.Links.{View}

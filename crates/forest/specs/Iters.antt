@@ -1,8 +1,7 @@
 -- What the iterators over children do.
-use Rattle.std.specs.Prelude.{◌≡◌, false, List, [], ◌∷◌, Option, Result}
+use Rattle.std.specs.Prelude.{◌≡◌, false, List, [], ◌∷◌, Option}
 use Rattle.result.specs.declared.refusal.Refusal.{Refusal}
 use Rattle.result.specs.declared.refusal.Refusal.TheVariants.{Dangling}
-use Rattle.result.specs.Rows.{Answered}
 use Rattle.linked_list.specs.declared.span.Span.{Span}
 use Rattle.linked_list.specs.Links.{Holds, View}
 use Rattle.linked_list.specs.Spans.{FromBack, FromFront, Spans}

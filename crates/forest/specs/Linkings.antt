@@ -1,5 +1,5 @@
 -- What linking and unlinking do: the refusals in the order in which they are tested, and else the children after.
-use Rattle.std.specs.Prelude.{◌≡◌, Bool, true, false, ◌⊎◌, List, [], ◌∷◌, is_some, Some, None, Result}
+use Rattle.std.specs.Prelude.{◌≡◌, true, false, ◌⊎◌, List, [], ◌∷◌, is_some, Some, None, Result}
 use Rattle.result.specs.declared.refusal.Refusal.{Refusal}
 use Rattle.result.specs.declared.refusal.Refusal.TheVariants.{AlreadyLinked, Dangling, FixedBody, GoesThroughTable, MarkNotLinked, NotLinked, WouldContainItself}
 use Rattle.result.specs.Rows.{Answered}

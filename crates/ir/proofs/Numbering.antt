@@ -1,5 +1,5 @@
 -- Every operation's name stays held, and a store that changed in no part is the same store. Assumes nothing.
-use Rattle.std.proofs.Common.{◌≡◌, ℕ, ◌+◌, ◌<◌, ◌≤◌, Bool, true, false, ◌⊎◌, List, [], ◌∷◌, ◌++◌, length, is_some, Some, None, Ok, Err, vec_items, MatchBool, Option, Result, sym, refl, ap, ◌∙◌, subst, inl, inr, ⊎_elim, arith, length-append}
+use Rattle.std.proofs.Common.{◌≡◌, ℕ, ◌<◌, ◌≤◌, Bool, true, false, List, [], ◌∷◌, ◌++◌, length, is_some, Some, None, Ok, Err, vec_items, MatchBool, Option, Result, sym, refl, ap, ◌∙◌, subst, inl, inr, arith}
 use mathlib.Core.Logic.{∥∥₁_elim, ∥∥₁_prop}
 use native.Mathlib.Bridge.{le_prop}
 use Rattle.std.proofs.lemmas.List.{length-map, length_push}
@@ -32,7 +32,6 @@ use Rattle.names.specs.Held.{Finds, held}
 use Rattle.names.specs.Held.{Reads as NamesRead}
 use Rattle.std.specs.Option.{option_map}
 use Rattle.result.specs.Rows.{NoRow}
-use Rattle.names.specs.Places.{Stands}
 use Rattle.ir.specs.declared.context.Context.{Context}
 use Rattle.ir.specs.Calls.{Holding, operation_rows}
 use Rattle.ir.specs.Stores.{name_at, name_of, names, nodes}

@@ -1,15 +1,13 @@
 -- From what the tests of a making answer to its rows. Assumes nothing.
-use Rattle.std.proofs.Common.{◌≡◌, ℕ, ◌<◌, ◌≤◌, Bool, true, false, ltb, ◌⊎◌, List, [], ◌∷◌, length, Some, None, Ok, Err, Option, sym, refl, ap, ◌∙◌, subst, inl, inr, arith}
-use Rattle.std.proofs.lemmas.Bool.{ltb-false, ltb-true}
+use Rattle.std.proofs.Common.{◌≡◌, ℕ, ◌<◌, true, false, List, length, Some, None, Ok, Option, sym, ap, ◌∙◌, subst, inl, inr, arith}
+use Rattle.std.proofs.lemmas.Bool.{ltb-false}
 use Rattle.records.specs.declared.kind.Kind.{Kind}
 use Rattle.records.specs.declared.making.MadeOperation.{MadeOperation}
 use Rattle.records.specs.declared.shape.Shape.{Shape}
 use Rattle.records.specs.Makings.{Roomy, operation_made, with_operation}
-use Rattle.records.specs.Shapes.{Misshapen, Shaped, kind_sum}
+use Rattle.records.specs.Shapes.{Shaped, kind_sum}
 use Rattle.records.proofs.Sums.{one_kind}
 use Rattle.identifier.specs.declared.identifier.Identifier.{Identifier}
-use Rattle.identifier.specs.Identifiers.{text}
-use Rattle.identifier.specs.Names.{valid_name}
 use Rattle.names.specs.Places.{Absent}
 use Rattle.result.specs.declared.refusal.Refusal.{Refusal}
 use Rattle.result.specs.declared.refusal.Refusal.TheVariants.{NamesFull, RecordsFull}

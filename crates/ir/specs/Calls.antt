@@ -1,5 +1,5 @@
 -- What each call on a store does: its refusals in the order in which they are tested, and else its answer and the store after.
-use Rattle.std.specs.Prelude.{◌≡◌, ℕ, ◌<◌, ◌≤◌, Bool, true, false, cond, ◌⊎◌, List, [], ◌∷◌, ◌++◌, length, Some, None, Option, Result, nat_lt}
+use Rattle.std.specs.Prelude.{◌≡◌, ℕ, ◌<◌, Bool, true, false, cond, ◌⊎◌, List, [], ◌∷◌, ◌++◌, length, Some, None, Option, Result, nat_lt}
 use Rattle.arena.specs.Pools.{room}
 use Rattle.arena.specs.Shelves.{item}
 use Rattle.std.specs.Option.{option_map}

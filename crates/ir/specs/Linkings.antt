@@ -1,6 +1,6 @@
 -- What linking and unlinking do to a store: the refusals in the order in which they are tested, and else the nodes after;
 -- the names stay.
-use Rattle.std.specs.Prelude.{◌≡◌, Bool, false, List, [], ◌∷◌, is_some, Result}
+use Rattle.std.specs.Prelude.{◌≡◌, Bool, false, [], ◌∷◌, is_some, Result}
 use Rattle.result.specs.declared.refusal.Refusal.{Refusal}
 use Rattle.result.specs.declared.refusal.Refusal.TheVariants.{Dangling}
 use Rattle.result.specs.Rows.{Answered}

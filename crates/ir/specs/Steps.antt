@@ -1,5 +1,5 @@
 -- What the inner steps of a making answer.
-use Rattle.std.specs.Prelude.{◌≡◌, ℕ, true, false, ◌⊎◌, List, [], ◌∷◌, ◌++◌, length, Some, None, Ok, Err, Option, Result}
+use Rattle.std.specs.Prelude.{◌≡◌, ℕ, true, false, List, length, Some, None, Ok, Err, Option, Result}
 use Rattle.records.specs.declared.making.MadeOperation.{MadeOperation}
 use Rattle.records.specs.Shapes.{Shaped}
 use Rattle.records.specs.Makings.{AllKept, Roomy, operation_made, with_operation}

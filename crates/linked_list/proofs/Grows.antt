@@ -1,7 +1,7 @@
 -- A store in which nodes and containers were made goes on to describe lists. Assumes nothing.
-use Rattle.std.proofs.Common.{◌≡◌, Bool, true, false, ◌⊎◌, List, [], ◌∷◌, Some, None, Option, sym, refl, ap, ◌∙◌, subst, inl, inr}
-use Rattle.linked_list.specs.Links.{View, In, Run, Chain, Holds}
-use Rattle.linked_list.proofs.Lists.{Stays, keep, run_live}
+use Rattle.std.proofs.Common.{◌≡◌, true, ◌⊎◌, List, Some, None, sym, ◌∙◌, subst, inl, inr}
+use Rattle.linked_list.specs.Links.{View, In, Chain, Holds}
+use Rattle.linked_list.proofs.Lists.{keep, run_live}
 
 module _ {N C : Type 0} where
   -- a node that was live is live, between the same neighbours and in the same container

@@ -1,8 +1,8 @@
 -- A making as a whole, from its parts, and the tables' lengths. Assumes nothing.
-use Rattle.std.proofs.Common.{◌≡◌, ℕ, zero, suc, ◌+◌, ◌-◌, ◌<◌, ◌≤◌, Bool, true, false, cond, List, ◌++◌, length, replicate, Some, None, vec_items, vec_len, Option, sym, refl, ap, ◌∙◌, subst, arith}
+use Rattle.std.proofs.Common.{◌≡◌, ℕ, zero, suc, ◌-◌, ◌<◌, ◌≤◌, Bool, true, false, cond, List, ◌++◌, length, replicate, Some, None, vec_len, Option, sym, refl, ap, ◌∙◌, arith}
 use Rattle.std.proofs.lemmas.List.{length-set}
 use Rattle.arena.specs.declared.arena.Arena.{Arena}
-use Rattle.arena.specs.Pools.{room, Sound}
+use Rattle.arena.specs.Pools.{room}
 use Rattle.arena.specs.Recorded.{shelf}
 use Rattle.arena.specs.Shelves.{Shelf, entered}
 use Rattle.records.specs.declared.basic_block.BasicBlock.{BasicBlock}
@@ -13,8 +13,8 @@ use Rattle.records.specs.declared.kind.Kind.{Kind}
 use Rattle.records.specs.declared.making.MadeOperation.{MadeOperation}
 use Rattle.records.specs.declared.operation.Operation.{Operation}
 use Rattle.records.specs.declared.region.Region.{Region}
-use Rattle.records.specs.Makings.{Roomy, body_of, blocks_needed, new_block, new_operation, no_region, operation_made, region_ptrs, regions_made, with_block, with_body, with_operation, with_regions}
-use Rattle.records.specs.Models.{Model, next_block, next_op, next_region, tables}
+use Rattle.records.specs.Makings.{body_of, new_block, new_operation, no_region, operation_made, region_ptrs, regions_made, with_body, with_operation, with_regions}
+use Rattle.records.specs.Models.{Model, next_block, next_op, next_region}
 
 -- Lengths.
 

@@ -1,9 +1,9 @@
 -- The regions of an operation, made one after the other. Assumes nothing.
-use Rattle.std.proofs.Common.{◌≡◌, ℕ, zero, suc, ◌+◌, ◌-◌, ◌<◌, ◌≤◌, true, List, [], ◌∷◌, ◌++◌, length, set, replicate, Option, sym, refl, ap, ◌∙◌, subst, append_assoc, add-one, arith}
+use Rattle.std.proofs.Common.{◌≡◌, ℕ, zero, suc, ◌+◌, ◌-◌, ◌<◌, ◌≤◌, true, List, [], ◌∷◌, ◌++◌, length, set, replicate, Option, sym, refl, ap, ◌∙◌, append_assoc, add-one, arith}
 use Rattle.std.proofs.lemmas.List.{length_push, set-append_right}
 use Rattle.arena.specs.declared.handle.Handle.{Handle}
 use Rattle.arena.specs.Pools.{live, next, room, Sound}
-use Rattle.arena.specs.Shelves.{Shelf, at, entered}
+use Rattle.arena.specs.Shelves.{Shelf, entered}
 use Rattle.arena.proofs.Pooling.{room_take, take_sound}
 use Rattle.arena.proofs.Shelving.{enter_keeps, enter_live}
 use Rattle.records.specs.declared.handles.BlockPtr.{BlockPtr}

@@ -1,5 +1,5 @@
 -- What makings put into the store.
-use Rattle.std.specs.Prelude.{◌≡◌, ℕ, zero, suc, ◌-◌, ◌<◌, ◌≤◌, Bool, true, false, cond, List, [], ◌∷◌, ◌++◌, replicate, Some, None, Option}
+use Rattle.std.specs.Prelude.{◌≡◌, ℕ, zero, suc, ◌-◌, ◌≤◌, Bool, true, false, List, [], ◌∷◌, ◌++◌, replicate, Some, None, Option}
 use Rattle.arena.specs.declared.handle.Handle.{Handle}
 use Rattle.arena.specs.Pools.{live, next, room}
 use Rattle.arena.specs.Shelves.{Shelf, at, entered}

@@ -1,7 +1,7 @@
 -- The store of operations, blocks and regions as tables of records.
-use Rattle.std.specs.Prelude.{◌≡◌, ℕ, List, [], ◌∷◌, Some, None, Option}
+use Rattle.std.specs.Prelude.{◌≡◌, Option}
 use Rattle.arena.specs.declared.handle.Handle.{Handle}
-use Rattle.arena.specs.Pools.{Pool, next, unused_pool}
+use Rattle.arena.specs.Pools.{next, unused_pool}
 use Rattle.arena.specs.Recorded.{shelf}
 use Rattle.arena.specs.Shelves.{Shelf, at}
 use Rattle.records.specs.declared.basic_block.BasicBlock.{BasicBlock}

@@ -1,5 +1,5 @@
 -- Nodes of all kinds: in which each stands, and which are tables, symbols and bodies of tables.
-use Rattle.std.specs.Prelude.{◌≡◌, ℕ, Bool, true, false, ◌&&◌, List, take, Some, None, Option}
+use Rattle.std.specs.Prelude.{◌≡◌, ℕ, Bool, false, ◌&&◌, List, take, Some, None, Option}
 use Rattle.std.specs.Option.{option_map}
 use Rattle.arena.specs.Shelves.{item}
 use Rattle.linked_list.specs.declared.spot.Spot.{Spot}

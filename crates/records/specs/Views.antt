@@ -1,5 +1,5 @@
 -- The links of operations in blocks, and of blocks in regions, as the tables of records have them.
-use Rattle.std.specs.Prelude.{◌≡◌, map, Some, None, Option}
+use Rattle.std.specs.Prelude.{map, Some, None, Option}
 use Rattle.arena.specs.Pools.{live}
 use Rattle.arena.specs.Shelves.{Shelf}
 use Rattle.linked_list.specs.Links.{View}

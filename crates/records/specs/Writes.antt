@@ -1,7 +1,6 @@
 -- One record of a table is written: what its readers see. Assumes nothing.
-use Rattle.std.specs.Prelude.{◌≡◌, ℕ, ◌<◌, true, ◌⊎◌, List, map, length, set, Some, None, vec_items, vec_len, Option, ◌≢◌, slice_index_or, slice_set, refl}
+use Rattle.std.specs.Prelude.{◌≡◌, true, ◌⊎◌, map, set, Some, vec_items, Option, ◌≢◌, slice_index_or, slice_set, refl}
 use Rattle.std.proofs.Common.{sym, ap, ◌∙◌, inl, inr, ⊎_elim}
-use Rattle.std.proofs.Math.Path.{fun_ext}
 use Rattle.std.proofs.lemmas.List.{get_or-map, map-set, set-get_or}
 use Rattle.std.proofs.lemmas.Bool.{cases_eq}
 use Rattle.arena.specs.declared.arena.Arena.{Arena}
@@ -10,7 +9,6 @@ use Rattle.arena.specs.Pools.{live}
 use Rattle.arena.specs.Recorded.{shelf}
 use Rattle.arena.specs.Shelves.{Only, Shelf, at}
 use Rattle.arena.proofs.Shelving.{changed_only, live_items, read_at, same_handle}
-use Rattle.linked_list.specs.Links.{At}
 use Rattle.records.specs.declared.handles.BlockPtr.{BlockPtr}
 use Rattle.records.specs.declared.handles.OpPtr.{OpPtr}
 use Rattle.records.specs.declared.handles.RegionPtr.{RegionPtr}

@@ -1,5 +1,5 @@
 -- The tags of fields.
-use Rattle.std.specs.Prelude.{◌≡◌, ℕ, ◌≢◌}
+use Rattle.std.specs.Prelude.{ℕ, ◌≢◌}
 use Rattle.script.specs.declared.tag.Tag.{Tag}
 use Rattle.script.specs.declared.tag.Tag.TheVariants.{MakeOperation, MakeBlock}
 

@@ -1,8 +1,7 @@
-use Rattle.std.proofs.Common.{◌≡◌, ◌<◌, ◌≤◌, Bool, cond, map, length, get_or, Some, None, Option, sym, ap, ◌∙◌, arith, rules, lt-ltb}
+use Rattle.std.proofs.Common.{◌≡◌, Bool, cond, map, length, Some, None, Option, sym, ap, ◌∙◌, arith, rules, lt-ltb}
 use Rattle.std.proofs.lemmas.List.{get_or-map, get_or_past, length-map}
 use Rattle.arena.specs.Shelves.{item}
 use Rattle.records.specs.declared.handles.RegionPtr.{RegionPtr}
-use Rattle.ir.specs.Calls.{region_nth}
 use Rattle.ir.proofs.noting.nth_region.Goals as goal
 
 pub returns-then-index-ge4 : goal.returns-then-index-ge4

@@ -1,9 +1,9 @@
-use Rattle.std.proofs.Common.{◌≡◌, ◌≤◌, refl, ap, ◌∙◌}
+use Rattle.std.proofs.Common.{refl, ap, ◌∙◌}
 use Rattle.arena.specs.Recorded.{shelf}
 use Rattle.arena.specs.Shelves.{entered}
 use Rattle.records.specs.declared.operation.Operation.{Operation}
 use Rattle.arena.proofs.Shelving.{entered_long}
-use Rattle.records.specs.Makings.{new_block, with_regions}
+use Rattle.records.specs.Makings.{new_block}
 use Rattle.records.specs.Models.{tables}
 use Rattle.records.proofs.Made.{Steps, as_long, body_long, regions_long, steps_after, steps_answer}
 use Rattle.records.proofs.making.make_operation_in.Goals as goal

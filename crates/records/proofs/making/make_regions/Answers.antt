@@ -1,4 +1,4 @@
-use Rattle.std.proofs.Common.{◌≡◌, ℕ, ◌+◌, ◌-◌, ◌<◌, ◌≤◌, List, ◌++◌, replicate, sym, ap, ◌∙◌, arith}
+use Rattle.std.proofs.Common.{◌≡◌, ℕ, ◌-◌, ◌<◌, ◌≤◌, ◌++◌, replicate, ap, ◌∙◌, arith}
 use Rattle.arena.specs.Pools.{next, room}
 use Rattle.arena.specs.Recorded.{shelf}
 use Rattle.arena.specs.Shelves.{Shelf, entered}

@@ -1,4 +1,4 @@
-use Rattle.std.proofs.Common.{◌≡◌, ◌-◌, ◌≤◌, ◌++◌, replicate}
+use Rattle.std.proofs.Common.{◌≡◌, ◌-◌, ◌++◌, replicate}
 use Rattle.arena.specs.Recorded.{shelf}
 use Rattle.records.specs.Makings.{no_region, region_ptrs, with_regions}
 use Rattle.records.proofs.making.make_regions.Given as goal

@@ -1,4 +1,4 @@
-use Rattle.std.proofs.Common.{◌≡◌, sym, refl, ◌∙◌}
+use Rattle.std.proofs.Common.{sym, refl, ◌∙◌}
 use Rattle.arena.proofs.Shelving.{ended_by, freed_live, freed_long}
 use Rattle.arena.proofs.arena.Arena.free.Goals as goal
 

@@ -1,4 +1,4 @@
-use Rattle.std.proofs.Common.{◌≡◌, sym, refl, ◌∙◌}
+use Rattle.std.proofs.Common.{sym, refl, ◌∙◌}
 use Rattle.arena.proofs.Shelving.{made_by, next_records, taken_long, took_next}
 use Rattle.arena.proofs.arena.Arena.make.Goals as goal
 

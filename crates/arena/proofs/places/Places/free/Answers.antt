@@ -1,4 +1,4 @@
-use Rattle.std.proofs.Common.{◌≡◌, ◌≤◌, vec_len, vec_capacity, sym, arith}
+use Rattle.std.proofs.Common.{◌≤◌, vec_len, vec_capacity, sym, arith}
 use Rattle.arena.specs.Placed.{pool}
 use Rattle.arena.proofs.Filling.{sound, sound_as, live_in, retired, renewed}
 use Rattle.arena.proofs.Pooling.{free_sound}

@@ -1,4 +1,4 @@
-use Rattle.std.proofs.Common.{◌≡◌, ℕ, ◌+◌, Bool, true, false, cond, eqb, sym, ap, ◌∙◌}
+use Rattle.std.proofs.Common.{ℕ, ◌+◌, Bool, cond, eqb, ap, ◌∙◌}
 use Rattle.arena.specs.Pools.{take_place}
 use Rattle.arena.proofs.places.Places.fresh_after.Goals as goal
 

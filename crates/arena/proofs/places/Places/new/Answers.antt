@@ -1,4 +1,4 @@
-use Rattle.std.proofs.Common.{◌≡◌, ℕ, ◌≤◌, List, [], replicate, vec_items, vec_len, vec_capacity, sym, refl, ap, ◌∙◌, arith, rules}
+use Rattle.std.proofs.Common.{◌≡◌, ℕ, ◌≤◌, List, replicate, vec_items, vec_len, vec_capacity, ap, ◌∙◌, arith, rules}
 use Rattle.arena.specs.declared.slot.Slot.{Slot}
 use Rattle.arena.specs.Pools.{Pool, unused, unused_pool}
 use Rattle.arena.proofs.Filling.{sound_as}

@@ -1,5 +1,5 @@
-use Rattle.std.proofs.Common.{◌≡◌, ◌<◌, Some, None, Option, sym, refl, ap, ◌∙◌, subst}
-use Rattle.trees.specs.Climbs.{Within, self}
+use Rattle.std.proofs.Common.{◌≡◌, ◌<◌, Some, Option, sym, subst}
+use Rattle.trees.specs.Climbs.{self}
 use Rattle.records.specs.declared.ir_node.IRNode.{IRNode}
 use Rattle.records.specs.Nodes.{parent}
 use Rattle.forest.specs.Forests.{model}

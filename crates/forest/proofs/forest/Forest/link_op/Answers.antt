@@ -1,6 +1,5 @@
-use Rattle.std.proofs.Common.{◌≡◌, true, is_some, sym, refl, ap, ◌∙◌, subst, inl, inr}
+use Rattle.std.proofs.Common.{is_some, sym, refl, ap, ◌∙◌, subst, inl, inr}
 use Rattle.std.specs.Option.{option_map}
-use Rattle.linked_list.specs.Edits.{spot_in}
 use Rattle.linked_list.specs.Links.{Sound}
 use Rattle.trees.specs.Climbs.{Within}
 use Rattle.records.specs.declared.ir_node.IRNode.TheVariants as node

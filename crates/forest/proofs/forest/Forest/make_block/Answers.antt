@@ -1,4 +1,4 @@
-use Rattle.std.proofs.Common.{◌≡◌, ◌≤◌, sym, subst, arith}
+use Rattle.std.proofs.Common.{◌≤◌, sym, subst, arith}
 use Rattle.arena.specs.Pools.{room}
 use Rattle.linked_list.specs.Links.{Sound}
 use Rattle.records.specs.Models.{Model, tables}

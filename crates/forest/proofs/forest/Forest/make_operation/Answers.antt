@@ -1,4 +1,4 @@
-use Rattle.std.proofs.Common.{◌≡◌, sym, subst}
+use Rattle.std.proofs.Common.{sym, subst}
 use Rattle.linked_list.specs.Links.{Sound}
 use Rattle.records.specs.Models.{Model, tables}
 use Rattle.records.specs.Nodes.{Owned, parent}

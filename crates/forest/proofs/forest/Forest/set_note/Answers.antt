@@ -1,4 +1,4 @@
-use Rattle.std.proofs.Common.{◌≡◌, sym, refl, subst}
+use Rattle.std.proofs.Common.{sym, refl, subst}
 use Rattle.arena.proofs.Shelving.{at_dead}
 use Rattle.linked_list.specs.Links.{Sound}
 use Rattle.records.specs.Models.{tables}

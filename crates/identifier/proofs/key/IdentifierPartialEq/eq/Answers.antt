@@ -1,6 +1,5 @@
-use Rattle.std.proofs.Common.{◌≡◌, Decides, nat_eq, sym, ap, ◌∙◌, subst}
-use Rattle.std.specs.Cmp.Lexicographic.{pointwise, bytes_decides}
-use Rattle.identifier.specs.Identifiers.{text}
+use Rattle.std.proofs.Common.{◌≡◌, Decides, sym, subst}
+use Rattle.std.specs.Cmp.Lexicographic.{bytes_decides}
 use Rattle.identifier.proofs.Keys.{told}
 use Rattle.identifier.proofs.key.IdentifierPartialEq.eq.Goals as goal
 

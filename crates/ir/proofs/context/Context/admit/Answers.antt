@@ -1,5 +1,5 @@
-use Rattle.std.proofs.Common.{◌≡◌, refl}
-use Rattle.ir.proofs.Rowing.{Passed, names_full, records_full}
+use Rattle.std.proofs.Common.{refl}
+use Rattle.ir.proofs.Rowing.{names_full, records_full}
 use Rattle.ir.proofs.context.Context.admit.Goals as goal
 
 pub returns-then-not-can_hold : goal.returns-then-not-can_hold

@@ -1,4 +1,4 @@
-use Rattle.std.proofs.Common.{◌≡◌, Some, MatchBool, Option, sym, subst, arith}
+use Rattle.std.proofs.Common.{MatchBool, Option, sym, subst, arith}
 use Rattle.identifier.specs.declared.identifier.Identifier.{Identifier}
 use Rattle.ir.specs.Steps.{Full}
 use Rattle.ir.specs.Stores.{names}

@@ -1,4 +1,3 @@
-use Rattle.std.proofs.Common.{◌≡◌}
 use Rattle.ir.proofs.Numbering.{numbers_held, shaped_held}
 use Rattle.ir.proofs.context.Context.make_admitted.Goals as goal
 

@@ -1,4 +1,4 @@
-use Rattle.std.proofs.Common.{◌≡◌, refl, inl}
+use Rattle.std.proofs.Common.{refl, inl}
 use Rattle.ir.proofs.Numbering.{block_held, numbers_held, same_context}
 use Rattle.ir.proofs.context.Context.make_block.Goals as goal
 

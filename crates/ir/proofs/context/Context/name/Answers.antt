@@ -1,5 +1,4 @@
-use Rattle.std.proofs.Common.{◌≡◌}
-use Rattle.ir.proofs.Numbering.{numbers_held, read_name}
+use Rattle.ir.proofs.Numbering.{read_name}
 use Rattle.ir.proofs.context.Context.name.Goals as goal
 
 pub returns-in-Some-name : goal.returns-in-Some-name

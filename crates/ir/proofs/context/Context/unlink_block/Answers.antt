@@ -1,4 +1,4 @@
-use Rattle.std.proofs.Common.{◌≡◌, refl}
+use Rattle.std.proofs.Common.{refl}
 use Rattle.ir.proofs.Numbering.{block_unlinked_held, numbers_held, same_context}
 use Rattle.ir.proofs.context.Context.unlink_block.Goals as goal
 

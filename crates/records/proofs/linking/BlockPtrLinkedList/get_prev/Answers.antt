@@ -1,4 +1,4 @@
-use Rattle.std.proofs.Common.{◌≡◌, sym, ap, ◌∙◌}
+use Rattle.std.proofs.Common.{ap}
 use Rattle.arena.proofs.Shelving.{live_records, read_at}
 use Rattle.records.specs.declared.basic_block.BasicBlock.{BasicBlock}
 use Rattle.records.specs.Views.{part}

@@ -1,4 +1,4 @@
-use Rattle.std.proofs.Common.{◌≡◌, sym, ap, ◌∙◌}
+use Rattle.std.proofs.Common.{ap}
 use Rattle.arena.proofs.Shelving.{live_records, read_at}
 use Rattle.records.specs.declared.region.Region.{Region}
 use Rattle.records.specs.Views.{part}

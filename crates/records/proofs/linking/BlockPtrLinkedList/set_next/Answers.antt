@@ -1,4 +1,4 @@
-use Rattle.std.proofs.Common.{◌≡◌, List, refl, ap}
+use Rattle.std.proofs.Common.{List, refl, ap}
 use mathlib.Core.Path.{fun_ext}
 use Rattle.arena.specs.Recorded.{shelf}
 use Rattle.arena.proofs.Shelving.{live_records}

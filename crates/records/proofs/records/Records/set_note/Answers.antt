@@ -1,4 +1,4 @@
-use Rattle.std.proofs.Common.{◌≡◌, set, Some, vec_items, sym, refl, subst}
+use Rattle.std.proofs.Common.{set, Some, vec_items, sym, refl, subst}
 use Rattle.arena.specs.Recorded.{shelf}
 use Rattle.arena.specs.Shelves.{Only, Shelf, at}
 use Rattle.arena.proofs.Shelving.{changed_only, live_items, live_records, read_at}

@@ -1,4 +1,3 @@
-use Rattle.std.proofs.Common.{ap, sym, ◌∙◌}
 use Rattle.result.proofs.Numbers.{compared}
 use Rattle.result.proofs.refusal.RefusalPartialEq.eq.Goals as goal
 
