@@ -42,6 +42,7 @@ CHOSEN = {
     "Operation-made": "OperationFieldMade",
     "Block-made": "BlockFieldMade",
     "Cut-off": "FieldCutOff",
+    "Read_in": "ReadIn",
     "can-hold": "can_hold_when",
     "climbs-to": "climbs_closer",
     "each-once": "each_comes_once",
@@ -140,7 +141,7 @@ def rename_crate():
 
 def main():
     rename_crate()
-    names = defined() - answered
+    names = (defined() - answered) | {n for n in CHOSEN if "-" not in n}
     renamed = {n: spelled(n) for n in names}
     taken = {}
     for n, s in sorted(renamed.items()):

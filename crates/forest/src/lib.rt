@@ -11,3 +11,6 @@ mod nodes;
 
 pub use forest::Forest;
 pub use iter::{BlockIter, OpIter};
+pub use records::{
+    BasicBlock, BlockPtr, Kind, MadeOperation, OpPtr, Operation, Records, Region, RegionPtr, Shape,
+};

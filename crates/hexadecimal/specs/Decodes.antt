@@ -39,9 +39,9 @@ Stepped state place byte (Ok s) =
 Stepped state place byte (Err e) = Wanting {X = Step} (Err e) ⊥ × ((rest : List ℕ) → reads state place (byte ∷ rest) ≡ Err e)
 
 -- the bytes of a text stand behind the old ones, or the error is told
-abbrev pub Read_in : {X : Type 0} → List ℕ → List ℕ → Result X HexError → List ℕ → Type 0
-Read_in text old (Ok x) new = after old (decoded text) ≡ Ok new
-Read_in text old (Err e) new = Tells (decoded text) e
+abbrev pub ReadIn : {X : Type 0} → List ℕ → List ℕ → Result X HexError → List ℕ → Type 0
+ReadIn text old (Ok x) new = after old (decoded text) ≡ Ok new
+ReadIn text old (Err e) new = Tells (decoded text) e
 
 -- a byte that may be there stands behind the old ones, or the old ones stay
 abbrev pub Put : Option ℕ → Bool → List ℕ → List ℕ → Type 0

@@ -1,6 +1,6 @@
 // Decodes a text.
 ghost use Rattle.std.specs.Prelude.{◌≡◌, ◌+◌, ◌<◌, ◌≤◌, false, length, take, vec_len, vec_capacity};
-ghost use Rattle.hexadecimal.specs.Decodes.{Decodes, Wanting, Read_in, Put};
+ghost use Rattle.hexadecimal.specs.Decodes.{Decodes, Wanting, ReadIn, Put};
 
 use crate::error::HexError;
 use crate::state::State;
@@ -24,7 +24,7 @@ pub fn decode(text: &[u8], out: &mut Vec<u8>) -> Result<(), HexError>
 
 // Reads a text from its start. Where it goes wrong, the bytes before that place stand behind those that were there.
 fn read(text: &[u8], out: &mut Vec<u8>) -> Result<(), HexError>
-    ensures bytes { Read_in text.now out.old.items result out.new.items }
+    ensures bytes { ReadIn text.now out.old.items result out.new.items }
     ensures memory { Wanting result (vec_capacity out.old < vec_len out.old + length text.now) }
     ensures front { take (vec_len out.old) out.new.items ≡ out.old.items }
 {

@@ -32,3 +32,7 @@ decided a b r e =
 pub matched : (P : Type 0) (r : Bool) → Decides r P → MatchBool r P (P → ⊥)
 matched P true d = d.0 refl
 matched P false d = not_from_Decides false d refl
+
+-- what `==` says at each of its answers
+pub told_apart : (a b : Identifier) (r : Bool) → r ≡ on text (pointwise nat_eq) a b → MatchBool r (a ≡ b) (a ≡ b → ⊥)
+told_apart a b r e = matched (a ≡ b) r (decided a b r e)

@@ -1,5 +1,7 @@
 -- What an identifier means, and when one is made.
-use Rattle.std.specs.Prelude.{◌≡◌, ℕ, ◌*◌, ◌%◌, ◌^◌, ◌<◌, false, List, [], ◌∷◌, length, take, Ok, Err, fold, Result, bit_xor}
+use Rattle.std.specs.Prelude.{◌≡◌, ℕ, ◌*◌, ◌%◌, ◌^◌, ◌<◌, false, List, [], ◌∷◌, length, take, Ok, Err, fold, Result, bit_xor, Decides, nat_eq}
+use Rattle.std.specs.Cmp.Lexicographic.{pointwise}
+use Rattle.std.specs.Ordering.{on}
 use Rattle.result.specs.declared.refusal.Refusal.{Refusal}
 use Rattle.result.specs.declared.refusal.Refusal.TheVariants.{NameTooLong, MalformedIdentifier}
 use Rattle.result.specs.Rows.{Uppermost, NoRow}
@@ -26,3 +28,7 @@ fnv_step h b = (bit_xor h b * 16777619) % 2 ^ 32
 -- the hash of an identifier: FNV-1a over its bytes
 abbrev pub identifier_hash : Identifier → ℕ
 identifier_hash n = fold fnv_step 2166136261 (text n)
+
+-- `==` tells whether two identifiers are one: it compares their bytes.
+abbrev pub EqDecides : Type 0
+EqDecides = (a b : Identifier) → Decides (on text (pointwise nat_eq) a b) (a ≡ b)

@@ -4,7 +4,7 @@ ghost use Rattle.std.specs.Cmp.Lexicographic.{pointwise};
 ghost use Rattle.std.specs.Cmp.Rules.{comparing};
 ghost use Rattle.std.specs.Ordering.{on};
 ghost use Rattle.std.proofs.Common.{rules};
-ghost use Rattle.identifier.specs.Identifiers.{identifier_hash, text};
+ghost use Rattle.identifier.specs.Identifiers.{EqDecides, identifier_hash, text};
 
 use super::identifier::Identifier;
 use table::Key;
@@ -29,6 +29,7 @@ impl Eq for Identifier {
 impl Key for Identifier {
     ghost hashes = { identifier_hash };
 
+    #[tactic(auto, using(crate::proofs::Keys::told_apart))]
     fn same(&self, other: &Identifier) -> bool {
         self == other
     }
@@ -41,4 +42,11 @@ impl Key for Identifier {
         }
         h as usize
     }
+}
+
+// What `==` answers tells whether two identifiers are one.
+pub fn eq_decides() -> u8
+    ensures { EqDecides }
+{
+    0
 }

@@ -9,3 +9,4 @@ mod naming;
 mod tests;
 
 pub use identifier::Identifier;
+pub use key::eq_decides;

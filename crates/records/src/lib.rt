@@ -1,5 +1,5 @@
 // The records of operations, blocks and regions: how they are made, read and linked. Knows names by their numbers alone.
-// No record is written outside of this crate, and the setters of links are reached in it alone.
+// The tables are private to it: outside, a record of a store is changed by the calls that stand here alone.
 #![tactic(auto)]
 
 mod basic_block;

@@ -1,5 +1,6 @@
 -- The number and the name of each refusal.
-use Rattle.std.specs.Prelude.{◌≡◌, ℕ, List, codes}
+use Rattle.std.specs.Prelude.{◌≡◌, ℕ, List, Decides, codes, nat_eq}
+use Rattle.std.specs.Ordering.{on}
 use Rattle.result.specs.declared.refusal.Refusal.{Refusal}
 use Rattle.result.specs.declared.refusal.Refusal.TheVariants.{Bounds, ScriptCut, UnknownTag, BadField, BadOrdinal, NumberingFull, Dangling, NotATable, NotASymbol, BadShape, NameTooLong, MalformedIdentifier, NamesFull, RecordsFull, SymbolRedefined, SymbolOpAlreadyInAnotherTable, InvalidInsertionPoint, InsertionPointNotInSameTable, SymbolOpNotInTableOp, AlreadyLinked, MarkNotLinked, NotLinked, FixedBody, WouldContainItself, GoesThroughTable}
 
@@ -62,3 +63,7 @@ name GoesThroughTable = codes "GoesThroughTable"
 -- refusals that have one number are one refusal
 abbrev pub DistinctNumbers : Type 0
 DistinctNumbers = (e f : Refusal) → number e ≡ number f → e ≡ f
+
+-- `==` tells whether two refusals are one: it compares their numbers.
+abbrev pub EqDecides : Type 0
+EqDecides = (a b : Refusal) → Decides (on number nat_eq a b) (a ≡ b)

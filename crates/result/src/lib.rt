@@ -5,4 +5,4 @@ mod refusal;
 #[cfg(test)]
 mod tests;
 
-pub use refusal::{Refusal, numbers_are_distinct};
+pub use refusal::{Refusal, eq_decides, numbers_are_distinct};

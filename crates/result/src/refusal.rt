@@ -1,7 +1,7 @@
 // Why a call is refused: one case for each row, in the order in which rows are tested, and the row's number.
 ghost use Rattle.std.specs.Prelude.{◌≡◌, Decides, Some, nat_eq};
 ghost use Rattle.std.specs.Ordering.{on};
-ghost use Rattle.result.specs.Refusals.{number, name, DistinctNumbers};
+ghost use Rattle.result.specs.Refusals.{number, name, DistinctNumbers, EqDecides};
 ghost use Rattle.std.specs.Cmp.Rules.{comparing};
 ghost use Rattle.std.proofs.Common.{rules};
 
@@ -132,6 +132,13 @@ impl fmt::Display for Refusal {
 // No two refusals have one number.
 pub fn numbers_are_distinct() -> u8
     ensures { DistinctNumbers }
+{
+    0
+}
+
+// What `==` answers tells whether two refusals are one.
+pub fn eq_decides() -> u8
+    ensures { EqDecides }
 {
     0
 }
