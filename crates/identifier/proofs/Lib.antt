@@ -1,4 +1,1 @@
 mod Keys
-mod Padded
-mod Steps
-pub mod Texts

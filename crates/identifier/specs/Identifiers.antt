@@ -29,6 +29,6 @@ fnv_step h b = (bit_xor h b * 16777619) % 2 ^ 32
 abbrev pub identifier_hash : Identifier → ℕ
 identifier_hash n = fold fnv_step 2166136261 (text n)
 
--- `==` tells whether two identifiers are one: it compares their bytes.
+-- comparing their bytes tells whether two identifiers are one
 abbrev pub EqDecides : Type 0
 EqDecides = (a b : Identifier) → Decides (on text (pointwise nat_eq) a b) (a ≡ b)

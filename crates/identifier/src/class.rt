@@ -1,80 +1,57 @@
 // The class of a byte, from one constant table. What a name may have is the table's rule, proved over all bytes.
 ghost use Rattle.std.specs.Prelude.{◌≡◌};
-ghost use Rattle.identifier.specs.Names.{class_table, code_of, class_of, starts, continues};
+ghost use Rattle.identifier.specs.Names.{class_of, starts, continues};
+
+use Class::{Head, Stop, Tail};
 
 // Where a byte may stand in a name.
 #[derive(Clone, Copy)]
-pub enum Class {
-    // Nowhere.
-    Other,
-    // Anywhere.
-    Start,
-    // After the first byte.
-    Digit,
+enum Class {
+    // Nowhere: a name stops before it.
+    Stop,
+    // Anywhere, also at its head.
+    Head,
+    // In its tail alone, after the first byte.
+    Tail,
 }
 
-// The class of each of the 256 bytes, 16 to a row: a for Start, 9 for Digit, and a dot for Other.
-const CLASSES: &[u8; 256] = b"\
-    ................\
-    ................\
-    ................\
-    9999999999......\
-    .aaaaaaaaaaaaaaa\
-    aaaaaaaaaaa....a\
-    .aaaaaaaaaaaaaaa\
-    aaaaaaaaaaa.....\
-    ................\
-    ................\
-    ................\
-    ................\
-    ................\
-    ................\
-    ................\
-    ................";
-
-// The table, which has at each byte what the rule says.
-fn classes() -> &'static [u8; 256]
-    ensures { result.now ≡ class_table }
-{
-    CLASSES
-}
-
-// What the table has at a byte.
-fn code(b: u8) -> u8
-    ensures { result ≡ code_of b }
-{
-    classes()[b as usize]
-}
+// The class of each of the 256 bytes, 16 to a row.
+static CLASSES: [Class; 256] = [
+    Stop, Stop, Stop, Stop, Stop, Stop, Stop, Stop, Stop, Stop, Stop, Stop, Stop, Stop, Stop, Stop,
+    Stop, Stop, Stop, Stop, Stop, Stop, Stop, Stop, Stop, Stop, Stop, Stop, Stop, Stop, Stop, Stop,
+    Stop, Stop, Stop, Stop, Stop, Stop, Stop, Stop, Stop, Stop, Stop, Stop, Stop, Stop, Stop, Stop,
+    Tail, Tail, Tail, Tail, Tail, Tail, Tail, Tail, Tail, Tail, Stop, Stop, Stop, Stop, Stop, Stop,
+    Stop, Head, Head, Head, Head, Head, Head, Head, Head, Head, Head, Head, Head, Head, Head, Head,
+    Head, Head, Head, Head, Head, Head, Head, Head, Head, Head, Head, Stop, Stop, Stop, Stop, Head,
+    Stop, Head, Head, Head, Head, Head, Head, Head, Head, Head, Head, Head, Head, Head, Head, Head,
+    Head, Head, Head, Head, Head, Head, Head, Head, Head, Head, Head, Stop, Stop, Stop, Stop, Stop,
+    Stop, Stop, Stop, Stop, Stop, Stop, Stop, Stop, Stop, Stop, Stop, Stop, Stop, Stop, Stop, Stop,
+    Stop, Stop, Stop, Stop, Stop, Stop, Stop, Stop, Stop, Stop, Stop, Stop, Stop, Stop, Stop, Stop,
+    Stop, Stop, Stop, Stop, Stop, Stop, Stop, Stop, Stop, Stop, Stop, Stop, Stop, Stop, Stop, Stop,
+    Stop, Stop, Stop, Stop, Stop, Stop, Stop, Stop, Stop, Stop, Stop, Stop, Stop, Stop, Stop, Stop,
+    Stop, Stop, Stop, Stop, Stop, Stop, Stop, Stop, Stop, Stop, Stop, Stop, Stop, Stop, Stop, Stop,
+    Stop, Stop, Stop, Stop, Stop, Stop, Stop, Stop, Stop, Stop, Stop, Stop, Stop, Stop, Stop, Stop,
+    Stop, Stop, Stop, Stop, Stop, Stop, Stop, Stop, Stop, Stop, Stop, Stop, Stop, Stop, Stop, Stop,
+    Stop, Stop, Stop, Stop, Stop, Stop, Stop, Stop, Stop, Stop, Stop, Stop, Stop, Stop, Stop, Stop,
+];
 
 // The class of a byte.
 fn class_of(b: u8) -> Class
     ensures { result ≡ class_of b }
 {
-    match code(b) {
-        b'a' => Class::Start,
-        b'9' => Class::Digit,
-        _ => Class::Other,
-    }
+    CLASSES[b as usize]
 }
 
 // A name may begin with this byte.
 pub fn is_start(b: u8) -> bool
     ensures { result ≡ starts b }
 {
-    match class_of(b) {
-        Class::Start => true,
-        Class::Digit => false,
-        Class::Other => false,
-    }
+    matches!(class_of(b), Head)
 }
 
 // A name may go on with this byte.
 pub fn is_continue(b: u8) -> bool
     ensures { result ≡ continues b }
 {
-    match class_of(b) {
-        Class::Start => true,
-        Class::Digit => true,
-        Class::Other => false,
-    }
+    matches!(class_of(b), Head | Tail)
 }

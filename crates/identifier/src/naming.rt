@@ -15,18 +15,10 @@ impl Identifier {
     pub fn is_valid(name: &[u8]) -> bool
         ensures { result ≡ valid_name name.now }
     {
-        if name.len() == 0 {
-            return false;
+        match name {
+            [first, rest @ ..] => is_start(*first) && rest.iter().all(|b| is_continue(*b)),
+            [] => false,
         }
-        if !is_start(name[0]) {
-            return false;
-        }
-        for i in 1..name.len() {
-            if !is_continue(name[i]) {
-                return false;
-            }
-        }
-        true
     }
 
     // The identifier with these bytes, if they are at most 32 and a valid name.
@@ -41,9 +33,7 @@ impl Identifier {
             return Err(Refusal::MalformedIdentifier);
         }
         let mut bytes = [0; 32];
-        for i in 0..len {
-            bytes[i] = name[i];
-        }
+        bytes[..len].copy_from_slice(name);
         Ok(Identifier {
             len: len as u8,
             bytes,
@@ -61,7 +51,6 @@ impl Identifier {
     pub fn as_bytes(&self) -> &[u8]
         ensures { result.now ≡ text self.now }
     {
-        let len = self.len as usize;
-        &self.bytes[0..len]
+        &self.bytes[..self.len()]
     }
 }

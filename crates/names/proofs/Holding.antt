@@ -1,19 +1,17 @@
 -- From what the list and the map of the names ensure to what the calls answer.
-use Rattle.std.proofs.Common.{◌≡◌, ℕ, ◌<◌, true, List, [], ◌∷◌, ◌++◌, map, length, get_or, replicate, is_ok, Some, None, Ok, Err, vec_items, vec_len, vec_capacity, Option, Result, sym, ap, ◌∙◌, subst, arith}
+use Rattle.std.proofs.Common.{◌≡◌, ℕ, ◌<◌, true, List, [], ◌∷◌, ◌++◌, length, replicate, is_ok, Some, None, Ok, Err, vec_items, vec_len, Option, Result, sym, ap, ◌∙◌, subst, arith}
 use mathlib.Core.Logic.{∥∥₁_elim}
 use mathlib.Core.List.{is_set}
 use native.Mathlib.Nat.{ℕ_set}
 use native.Mathlib.Bridge.{le_prop}
 use Rattle.std.specs.Vec.{with_items}
-use Rattle.std.proofs.lemmas.List.{length-map, map-append, get_or_read, with_items_is}
-use Rattle.table.specs.declared.entry.Entry.{Entry}
-use Rattle.table.specs.declared.entry.Entry.TheVariants.{Free}
+use Rattle.std.proofs.lemmas.List.{length-map, with_items_is}
 use Rattle.table.specs.declared.entry.Full.{Full}
-use Rattle.table.specs.Maps.{used, Maps, Probed, Inserted}
+use Rattle.table.specs.Maps.{MapEntry, used, Maps, Probed, Inserted}
 use Rattle.table.proofs.Laws.{whole}
 use Rattle.identifier.specs.declared.identifier.Identifier.{Identifier}
 use Rattle.identifier.specs.Identifiers.{text, identifier_hash}
-use Rattle.identifier.proofs.Texts.{same_text}
+use Rattle.identifier.specs.Deciding.{same_text}
 use Rattle.names.specs.Places.{Stands, Absent}
 use Rattle.names.specs.Numbering.{Numbered}
 use Rattle.names.specs.Held.{held, Finds, Once}
@@ -22,7 +20,7 @@ use Rattle.names.proofs.Standing.{stands_map, stands_unmap, stands_from}
 use Rattle.names.proofs.Numbering.{absent, one_place, grown, none_numbered}
 
 abbrev Entries : Type 0
-Entries = List (Entry Identifier ℕ)
+Entries = List (MapEntry Identifier ℕ)
 
 -- Reading a store of names.
 
@@ -73,24 +71,7 @@ once s = record {
   few = let long = held_count s in let most = s.few in omega arith;
 }
 
-pub read : (s : Names) (i : ℕ) (n : Identifier) → i < vec_len s.list → n ≡ get_or (vec_items s.list) i n → Stands (held s) i (text n)
-read s i n lt e =
-    let long = list_long s in
-    let within : i < length (vec_items s.list) = omega arith in
-    stands_map text (vec_items s.list) i n (record { within = within; is = λ d. sym (get_or_read (vec_items s.list) i n within e d) })
-
 -- Holding a new name.
-
--- fewer than 256 names are listed, and there is room for one more
-pub record Few (s : Names) : Type 0 where
-  pub few : vec_len s.list < 256
-  pub room : vec_len s.list < vec_capacity s.list
-
-pub few_listed : (s : Names) → length (held s) < 256 → Few s
-few_listed s lt = record {
-  few = let count = held_count s in omega arith;
-  room = let count = held_count s in let most = s.room in omega arith;
-}
 
 -- a name that is not held is not mapped
 pub missing : (s : Names) (xs : Entries) (n : Identifier) → xs ≡ vec_items s.entries → Absent (held s) (text n) → Maps xs n None
@@ -113,7 +94,7 @@ put_long xs fs n i (Err e) refusal = ap length refusal.same
 
 numbered_put : (list : List Identifier) (xs fs : Entries) (n : Identifier) (r : Result (Option ℕ) Full) → is_ok r ≡ true → Numbered list xs → Maps xs n None → Inserted identifier_hash xs n (length list) r fs → Numbered (list ++ n ∷ []) fs
 numbered_put list xs fs n (Ok old) ok h new put = grown list xs fs n old h new put
-numbered_put list xs fs n (Err e) ok h new refusal = absurd (let z : ◌≡◌ {A = ℕ} 0 1 = cc in omega arith)
+numbered_put list xs fs n (Err e) ok h new refusal = absurd (cc)
 
 pub follows : (s : Names) (list : List Identifier) (xs fs : Entries) (n : Identifier) (i : ℕ) (r : Result (Option ℕ) Full)
     → xs ≡ vec_items s.entries → length xs ≡ vec_len s.entries → list ≡ vec_items s.list ++ n ∷ [] → i ≡ vec_len s.list
@@ -127,9 +108,6 @@ follows s list xs fs n i r e l pushed number ok new put =
     (subst (Numbered (old ++ n ∷ [])) (sym back)
     (numbered_put old xs fs n r ok (subst (Numbered old) (sym e) h) new (subst (λ (k : ℕ). Inserted identifier_hash xs n k r fs) last put))) ∣₁)
 
-pub held_more : (s : Names) (list : List Identifier) (n : Identifier) → list ≡ vec_items s.list ++ n ∷ [] → map text list ≡ held s ++ text n ∷ []
-held_more s list n e = ap (map text) e ∙ map-append text (vec_items s.list) (n ∷ [])
-
-pub nothing_held : (list : List Identifier) (es : Entries) → list ≡ [] → es ≡ replicate 256 Free → ∥ Numbered list es ∥₁
+pub nothing_held : (list : List Identifier) (es : Entries) → list ≡ [] → es ≡ replicate 256 None → ∥ Numbered list es ∥₁
 nothing_held list es e f =
     ∣ subst (λ (ys : List Identifier). Numbered ys es) (sym e) (subst (Numbered []) (sym f) (none_numbered 256)) ∣₁

@@ -1,37 +1,33 @@
 -- The map goes on following the list: at first, and when a new name comes.
-use Rattle.std.proofs.Common.{◌≡◌, ℕ, zero, suc, ◌+◌, Bool, true, false, ◌⊎◌, List, [], ◌∷◌, ◌++◌, length, replicate, Some, None, Option, sym, refl, ap, subst, inl, inr, ⊎_elim, arith}
+use Rattle.std.proofs.Common.{◌≡◌, ℕ, zero, suc, ◌+◌, true, false, ◌⊎◌, List, [], ◌∷◌, ◌++◌, length, replicate, Some, None, Option, unwrap_or, sym, refl, ap, ◌∙◌, subst, inl, inr, ⊎_elim, arith}
 use Rattle.std.specs.Str.{bytes_eq}
 use Rattle.std.proofs.lemmas.Slice.Eq.{bytes_eq-Decides}
+use Rattle.std.proofs.lemmas.Bool.Decides.{not_from_Decides}
 use Rattle.std.proofs.lemmas.List.{length_push}
 use Rattle.std.proofs.lemmas.Bool.{cases_Bool}
-use Rattle.table.specs.declared.entry.Entry.{Entry}
-use Rattle.table.specs.declared.entry.Entry.TheVariants.{Free, Used}
-use Rattle.table.specs.Maps.{entry_at, used, fresh, Maps, Probed, Put, Updated}
+use Rattle.table.specs.Maps.{MapEntry, entry_at, used, fresh, Maps, Probed, Put, Updated}
 use Rattle.table.proofs.Entries.{not_free}
 use Rattle.table.proofs.Laws.{unused_probed, unused_used}
 use Rattle.identifier.specs.declared.identifier.Identifier.{Identifier}
 use Rattle.identifier.specs.Identifiers.{text, identifier_hash}
-use Rattle.identifier.proofs.Texts.{same_text}
+use Rattle.identifier.specs.Deciding.{same_text}
 use Rattle.names.specs.Places.{Stands, Absent}
 use Rattle.names.specs.Numbering.{Numbered}
 use Rattle.names.proofs.Standing.{stands_more, stands_last, stood_or_came, look}
 
 abbrev Entries : Type 0
-Entries = List (Entry Identifier ℕ)
-
-not_both : (b : Bool) → b ≡ true → b ≡ false → ⊥
-not_both b p q = let z : ◌≡◌ {A = ℕ} 0 1 = cc in omega arith
+Entries = List (MapEntry Identifier ℕ)
 
 pub decide : (a b : Identifier) → (a ≡ b) ⊎ (a ≡ b → ⊥)
 decide a b =
     let d = bytes_eq-Decides (text a) (text b) in
     ⊎_elim
     (λ (t : bytes_eq (text a) (text b) ≡ true). inl (same_text a b (d.0 t)))
-    (λ (t : bytes_eq (text a) (text b) ≡ false). inr (λ e. not_both (bytes_eq (text a) (text b)) (d.1 (ap text e)) t))
+    (λ (t : bytes_eq (text a) (text b) ≡ false). inr (λ e. not_from_Decides (bytes_eq (text a) (text b)) d t (ap text e)))
     (cases_Bool (bytes_eq (text a) (text b)))
 
-same_value : (n : Identifier) (i j : ℕ) (e f : Entry Identifier ℕ) → e ≡ f → e ≡ Used n i → f ≡ Used n j → i ≡ j
-same_value n i j e f p q r = cc
+same_value : (n : Identifier) (i j : ℕ) (e f : MapEntry Identifier ℕ) → e ≡ f → e ≡ Some (n, i) → f ≡ Some (n, j) → i ≡ j
+same_value n i j e f p q r = ap (λ (x : MapEntry Identifier ℕ). (unwrap_or x (n, i)).1) (sym q ∙ p ∙ r)
 
 -- a key has one value
 pub one_number : (es : Entries) (n : Identifier) (i j : ℕ) → Probed identifier_hash es → Maps es n (Some i) → Maps es n (Some j) → i ≡ j
@@ -100,15 +96,15 @@ grown list es fs n old h new put =
     (subst (λ (o : Option ℕ). used fs ≡ used es + fresh o) none put.counts)
 
 -- an unused entry is free
-free : (k i : ℕ) → entry_at {K = Identifier} {V = ℕ} (replicate k Free) i ≡ Free
+free : (k i : ℕ) → entry_at {K = Identifier} {V = ℕ} (replicate k None) i ≡ None
 free zero i = refl
 free (suc k) zero = refl
 free (suc k) (suc i) = free k i
 
-pub none_numbered : (k : ℕ) → Numbered [] (replicate k Free)
+pub none_numbered : (k : ℕ) → Numbered [] (replicate k None)
 none_numbered k = record {
   probed = unused_probed identifier_hash k;
   counted = unused_used Identifier ℕ k;
-  tells = λ n i m. absurd (not_free n i (entry_at (replicate k Free) m.0) (free k m.0) m.1);
+  tells = λ n i m. absurd (not_free n i (entry_at (replicate k None) m.0) (free k m.0) m.1);
   told = λ n i s. absurd (let lt = s.within in omega arith);
 }

@@ -3,7 +3,6 @@
 
 mod calls;
 mod names;
-mod numbers;
 #[cfg(test)]
 mod tests;
 

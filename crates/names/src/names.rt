@@ -6,6 +6,8 @@ use identifier::Identifier;
 use table::Entry;
 
 // At most 256 names. No call but `new` takes memory, since the list and the map have room for all of them.
+// Kept: the entries of the map stand here, beside the list of the names, since by a rule of the project a map is lent its entries at
+// each call.
 #[derive(Drop)]
 pub struct Names {
     pub(crate) list: Vec<Identifier>,

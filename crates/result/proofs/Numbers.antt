@@ -1,9 +1,11 @@
 -- A refusal is found again from its number.
-use Rattle.std.proofs.Common.{◌≡◌, ℕ, eqb, List, [], ◌∷◌, get_or, Decides, sym, refl, ap, ◌∙◌}
+use Rattle.std.proofs.Common.{◌≡◌, eqb, List, [], ◌∷◌, get_or, Decides, sym, refl, ap, ◌∙◌, rules}
+use denote.Enum.Bare.{sameb, same_true, true_same}
 use Rattle.result.specs.declared.refusal.Refusal.{Refusal}
 use Rattle.result.specs.declared.refusal.Refusal.TheVariants.{Bounds, ScriptCut, UnknownTag, BadField, BadOrdinal, NumberingFull, Dangling, NotATable, NotASymbol, BadShape, NameTooLong, MalformedIdentifier, NamesFull, RecordsFull, SymbolRedefined, SymbolOpAlreadyInAnotherTable, InvalidInsertionPoint, InsertionPointNotInSameTable, SymbolOpNotInTableOp, AlreadyLinked, MarkNotLinked, NotLinked, FixedBody, WouldContainItself, GoesThroughTable}
-use Rattle.std.proofs.lemmas.Bool.{eqb-true, eq-eqb}
-use Rattle.result.specs.Refusals.{number, DistinctNumbers}
+use Rattle.result.specs.contracts.refusal.Refusal.{the_type}
+use Rattle.std.proofs.lemmas.Bool.Decides.{Decides-eqb, Decides-like, same_from_decides}
+use Rattle.result.specs.Refusals.{number, DistinctNumbers, EqDecides}
 
 -- the refusals by their numbers; no refusal has the number 0
 by_number : List Refusal
@@ -41,7 +43,14 @@ found GoesThroughTable = refl
 pub distinct : DistinctNumbers
 distinct e f same = sym (found e) ∙ ap (λ n. get_or by_number n Bounds) same ∙ found f
 
--- comparing numbers tells whether two refusals are one
-pub compared : (e f : Refusal) (m n : ℕ) → m ≡ number e → n ≡ number f → Decides (eqb m n) (e ≡ f)
-compared e f m n p q =
-    (λ t. distinct e f (sym p ∙ eqb-true m n t ∙ q), λ same. eq-eqb m n (p ∙ ap number same ∙ sym q))
+-- `==` tells whether two refusals are one
+pub told : (e f : Refusal) → Decides (sameb the_type e f) (e ≡ f)
+told e f = (same_true the_type (search rules) e f, true_same the_type e f)
+
+-- so does comparing their numbers
+pub compared : EqDecides
+compared e f = Decides-like (eqb (number e) (number f)) (distinct e f) (ap number) (Decides-eqb (number e) (number f))
+
+-- so both answer alike
+pub as_numbers : (e f : Refusal) → sameb the_type e f ≡ eqb (number e) (number f)
+as_numbers e f = same_from_decides (sameb the_type e f) (eqb (number e) (number f)) (told e f) (compared e f)

@@ -64,6 +64,6 @@ name GoesThroughTable = codes "GoesThroughTable"
 abbrev pub DistinctNumbers : Type 0
 DistinctNumbers = (e f : Refusal) → number e ≡ number f → e ≡ f
 
--- `==` tells whether two refusals are one: it compares their numbers.
+-- comparing their numbers tells whether two refusals are one
 abbrev pub EqDecides : Type 0
 EqDecides = (a b : Refusal) → Decides (on number nat_eq a b) (a ≡ b)

@@ -2,13 +2,12 @@
 ghost use Rattle.std.specs.Prelude.{◌≡◌, Decides, Some, nat_eq};
 ghost use Rattle.std.specs.Ordering.{on};
 ghost use Rattle.result.specs.Refusals.{number, name, DistinctNumbers, EqDecides};
-ghost use Rattle.std.specs.Cmp.Rules.{comparing};
-ghost use Rattle.std.proofs.Common.{rules};
+ghost use Rattle.result.specs.declared.refusal.Refusal.{Refusal};
 
 use std::fmt;
 
 // The refusals. Where several fit, the one that stands first here is given.
-#[derive(Clone, Copy, Debug, Drop)]
+#[derive(Clone, Copy, PartialEq, Eq, Debug, Drop)]
 pub enum Refusal {
     // A script over its limit, a place past its end, or too little room for output.
     Bounds = 20,
@@ -64,6 +63,7 @@ pub enum Refusal {
 
 impl Refusal {
     // The number by which a printed line tells this refusal.
+    // Kept: a method beside `as u8`, since the rules speak of a refusal's number, and `u8::from(refusal)` is no plainer.
     pub fn number(self) -> u8
         ensures { result ≡ number self }
     {
@@ -104,23 +104,6 @@ impl Refusal {
     }
 }
 
-impl PartialEq for Refusal {
-    ghost eq = { on number nat_eq };
-
-    ghost laws = { Prim.search (comparing, rules) };
-
-    fn eq(&self, other: &Refusal) -> bool
-        ensures value { result ≡ on number nat_eq self.now other.now }
-        ensures same { Decides result (self.now ≡ other.now) }
-    {
-        self.number() == other.number()
-    }
-}
-
-impl Eq for Refusal {
-    ghost laws = { Prim.search (comparing, rules) };
-}
-
 impl fmt::Display for Refusal {
     ghost output = { λ r. Some (name r) };
 
@@ -130,15 +113,14 @@ impl fmt::Display for Refusal {
 }
 
 // No two refusals have one number.
-pub fn numbers_are_distinct() -> u8
+#[tactic(auto, using(crate::proofs::Numbers::distinct))]
+pub fn numbers_are_distinct()
     ensures { DistinctNumbers }
-{
-    0
-}
+{}
 
-// What `==` answers tells whether two refusals are one.
-pub fn eq_decides() -> u8
-    ensures { EqDecides }
-{
-    0
-}
+// What `==` answers tells whether two refusals are one: it answers as their numbers do.
+pub fn eq_decides()
+    ensures decides { (a b : Refusal) → Decides (⟦<Refusal as PartialEq>⟧.eq a b) (a ≡ b) }
+    ensures numbers { (a b : Refusal) → ⟦<Refusal as PartialEq>⟧.eq a b ≡ on number nat_eq a b }
+    ensures of_numbers { EqDecides }
+{}

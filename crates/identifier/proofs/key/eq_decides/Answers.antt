@@ -1,6 +1,5 @@
-use Rattle.std.proofs.Common.{refl}
-use Rattle.identifier.proofs.Keys.{decided}
+use Rattle.identifier.specs.Deciding.{told, as_texts, compared}
 use Rattle.identifier.proofs.key.eq_decides.Goals as goal
 
 pub returns : goal.returns
-returns c = λ a b. decided a b _ refl
+returns c = record { decides = told; texts = as_texts; of_texts = compared }

@@ -1,7 +1,5 @@
-use Rattle.std.proofs.Common.{refl}
-use Rattle.result.specs.Refusals.{number}
-use Rattle.result.proofs.Numbers.{compared}
+use Rattle.result.proofs.Numbers.{compared, told, as_numbers}
 use Rattle.result.proofs.refusal.eq_decides.Goals as goal
 
 pub returns : goal.returns
-returns c = λ a b. compared a b (number a) (number b) refl refl
+returns c = record { decides = told; numbers = as_numbers; of_numbers = compared }

@@ -1,16 +1,18 @@
-use Rattle.std.proofs.Common.{◌<◌, length, sym, arith}
-use Rattle.identifier.proofs.Steps.{goes_on, stops, valid, invalid}
+use Rattle.std.proofs.Common.{◌≡◌, ℕ, ◌-◌, ◌<◌, Bool, true, ◌&&◌, List, [], ◌∷◌, length, get_or, take, drop, sym, ap, ◌∙◌, arith, rules, tests}
+use Rattle.std.specs.List.{list_all}
+use Rattle.std.proofs.lemmas.List.{take_all}
+use Rattle.std.proofs.lemmas.Iterator.{YieldsList-from_slice}
+use Rattle.std.proofs.lemmas.Iterator.Search.{all_from_yields_List}
+use Rattle.identifier.specs.Names.{starts, continues, valid_name}
 use Rattle.identifier.proofs.identifier.Identifier.is_valid.Goals as goal
 
-pub returns-then-not-is_continue : goal.returns-then-not-is_continue
-returns-then-not-is_continue c =
-    let lt : 0 < length c.args.name.now = omega arith in
-    invalid _ lt (stops _ _ _ c.loop-i-test.true (sym c.if-not-is_continue.ensures) c.loop-i.invariant)
+-- where the first byte may begin a name, the others decide
+others_decide : (xs : List ℕ) (r : Bool) → 0 < length xs → starts (get_or xs 0 0) ≡ true → r ≡ list_all continues (take (length xs - 1) (drop 1 xs)) → r ≡ valid_name xs
+others_decide [] r h s e = absurd (omega arith)
+others_decide (x ∷ xs) r h s e =
+    e ∙ ap (list_all continues) (take_all (length (x ∷ xs) - 1) xs (omega arith)) ∙ ap (λ (b : Bool). b && list_all continues xs) (sym s)
 
-pub loop-i-preserved : goal.loop-i-preserved
-loop-i-preserved c = goes_on _ _ _ c.loop-i-test.true (sym c.if-not-is_continue.ensures) c.loop-i.invariant
-
-pub returns : goal.returns
-returns c =
-    let lt : 0 < length c.args.name.now = omega arith in
-    valid _ _ lt (sym c.if-not-is_start.ensures) c.loop-i-test.false c.loop-i.invariant
+pub returns-then-is_start : goal.returns-then-is_start
+returns-then-is_start c =
+    let all = all_from_yields_List continues _ _ c.all.result c.all.ensures.ran (YieldsList-from_slice _ c.iter.ensures.rest) (λ x b q k. search (rules, tests)) in
+    others_decide c.args.name.now _ (omega arith) (sym c.if-is_start.ensures) all

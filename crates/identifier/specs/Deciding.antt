@@ -1,12 +1,16 @@
--- An identifier is its text.
-use Rattle.std.proofs.Common.{◌≡◌, ℕ, ◌-◌, ◌≤◌, true, List, ◌++◌, length, take, replicate, sym, ap, ◌∙◌, subst, arith}
+-- That `==` tells whether two identifiers are one: an identifier is its text, and the rest of it are facts about that.
+use Rattle.std.specs.Prelude.{◌≡◌, ℕ, ◌-◌, ◌≤◌, Bool, true, ◌&&◌, ◌==◌, List, ◌++◌, length, take, replicate, Decides, nat_eq}
+use Rattle.std.proofs.Common.{subst, sym, ap, ◌∙◌}
 use mathlib.Core.Bool.{Bool-set}
 use mathlib.Core.List.{is_set}
 use native.Mathlib.Nat.{ℕ_set}
 use native.Mathlib.Bridge.{le_prop}
+use Rattle.std.specs.Cmp.Lexicographic.{pointwise, bytes_decides}
+use Rattle.std.specs.Ordering.{on}
+use Rattle.std.proofs.lemmas.Bool.Decides.{Decides-and, Decides-eqb, Decides-like, same_from_decides}
 use Rattle.std.proofs.lemmas.List.{length-take-le}
 use Rattle.identifier.specs.Names.{valid_name}
-use Rattle.identifier.specs.Identifiers.{text}
+use Rattle.identifier.specs.Identifiers.{EqDecides, text}
 use Rattle.identifier.specs.declared.identifier.Identifier.{Identifier}
 
 -- an identifier is its length and its bytes: the rest of it are facts about them
@@ -21,7 +25,7 @@ same_parts a b p q =
     subst (λ (n : ℕ). P n a.bytes) (sym p) (subst (P b.len) (sym q) base) a.long a.within a.valid a.padded
 
 pub text_length : (a : Identifier) → length (text a) ≡ a.len
-text_length a = let le : a.len ≤ length a.bytes = let l = a.long in let w = a.within in omega arith in length-take-le a.len a.bytes le
+text_length a = length-take-le a.len a.bytes (subst (λ (n : ℕ). a.len ≤ n) (sym a.long) a.within)
 
 -- identifiers with one text are one identifier
 pub same_text : (a b : Identifier) → text a ≡ text b → a ≡ b
@@ -33,10 +37,22 @@ same_text a b e =
     ∙ ap (λ (n : ℕ). text b ++ replicate (32 - n) 0) lens
     ∙ sym b.padded)
 
--- a text has at most 32 bytes
-pub text_short : (a : Identifier) → length (text a) ≤ 32
-text_short a = let long = text_length a in let within = a.within in omega arith
+-- `==`, as it is derived
+abbrev pub equal : Identifier → Identifier → Bool
+equal a b = (a.len == b.len) && pointwise nat_eq a.bytes b.bytes
 
--- a text is a valid name
-pub text_valid : (a : Identifier) → valid_name (text a) ≡ true
-text_valid a = a.valid
+-- `==` tells whether two identifiers are one, which is what a map asks of its keys
+pub told : (a b : Identifier) → Decides (equal a b) (a ≡ b)
+told a b =
+    Decides-like (equal a b)
+    (λ e. same_parts a b e.0 e.1)
+    (λ e. (ap (λ (n : Identifier). n.len) e, ap (λ (n : Identifier). n.bytes) e))
+    (Decides-and (a.len == b.len) (pointwise nat_eq a.bytes b.bytes) (Decides-eqb a.len b.len) (bytes_decides a.bytes b.bytes))
+
+-- so does comparing their texts
+pub compared : EqDecides
+compared a b = Decides-like (on text (pointwise nat_eq) a b) (same_text a b) (ap text) (bytes_decides (text a) (text b))
+
+-- so both answer alike
+pub as_texts : (a b : Identifier) → equal a b ≡ on text (pointwise nat_eq) a b
+as_texts a b = same_from_decides (equal a b) (on text (pointwise nat_eq) a b) (told a b) (compared a b)
