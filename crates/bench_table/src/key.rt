@@ -1,5 +1,6 @@
 // How a pair is compared and hashed, and where fresh pairs come from.
 ghost use Rattle.std.specs.Prelude.{◌≡◌, ◌+◌, ◌*◌, ◌%◌, ◌^◌};
+ghost use Rattle.std.proofs.Common.{rules};
 ghost use Rattle.bench_table.specs.Hashes.{pair_hash};
 
 use super::pair::Pair;
@@ -8,9 +9,7 @@ use table::Key;
 impl Key for Pair {
     ghost hashes = { pair_hash };
 
-    fn same(&self, other: &Pair) -> bool {
-        self.table == other.table && self.name == other.name
-    }
+    ghost same = { Prim.search rules };
 
     fn hash(&self) -> usize {
         let x = self.table.wrapping_mul(2654435761) ^ self.name;

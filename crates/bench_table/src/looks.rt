@@ -16,26 +16,21 @@ fn looks(entries: &[Entry<Pair, u32>], key: Pair) -> u32
     if n == 0 {
         return 0;
     }
-    let mut at = key.hash() % n;
-    for i in 0..512 {
-        let e = entries[at];
-        if let Entry::Free = e {
-            return i + 1;
-        }
-        at += 1;
-        if at == n {
-            at = 0;
-        }
-    }
-    512
+    let (front, back) = entries.split_at(key.hash() % n);
+    back.iter()
+        .chain(front)
+        .take(512)
+        .position(|e| e.is_none())
+        .map_or(512, |passed| passed as u32 + 1)
 }
 
 // The looks of 10,000 absent keys in all: `source` makes pairs that no entry has.
+// Kept: a `sum` over `map` was tried, and that it fits 32 bits was not proved.
 pub fn looks_of_misses(entries: &[Entry<Pair, u32>], source: &mut Source) -> u32
     ensures { result ≤ 512 * 10000 }
 {
     let mut total = 0;
-    for i in 0..MISSES {
+    for _ in 0..MISSES {
         total += looks(entries, source.pair());
     }
     total

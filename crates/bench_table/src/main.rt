@@ -50,13 +50,9 @@ fn churn(
 fn found(entries: &[Entry<Pair, u32>], keys: &[Pair]) -> usize
     ensures { result ≤ length keys.now }
 {
-    let mut n = 0;
-    for key in keys {
-        if get(entries, *key).is_some() {
-            n += 1;
-        }
-    }
-    n
+    keys.iter()
+        .filter(|key| get(entries, **key).is_some())
+        .count()
 }
 
 // Whether so many looks are few enough, in words.
@@ -85,7 +81,7 @@ fn report(
 }
 
 fn main(rt: HostRuntime) -> io::Result<()> {
-    let mut entries = [Entry::Free; 512];
+    let mut entries = [None; 512];
     let mut keys = [Pair { table: 0, name: 0 }; 256];
     let mut source = Source { state: 7, name: 0 };
     if fill(&mut entries, &mut keys, &mut source).is_err() {

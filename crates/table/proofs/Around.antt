@@ -1,6 +1,6 @@
 -- The order of places on the way round from a start.
-use Rattle.std.proofs.Common.{◌≡◌, ℕ, ◌+◌, ◌<◌, ◌≤◌, cond, ltb, arith}
-use Rattle.std.proofs.lemmas.Bool.{lt-ltb, le-ltb, cond-true, cond-false}
+use Rattle.std.proofs.Common.{◌≡◌, ℕ, ◌+◌, ◌<◌, ◌≤◌, ◌⊎◌, cond, ltb, inl, inr, ⊎_elim, arith}
+use Rattle.std.proofs.lemmas.Bool.{cases_lt, lt-ltb, le-ltb, cond-true, cond-false}
 use Rattle.table.specs.Maps.{Before, straight, to_end, from_front}
 
 pub itself : (n h i : ℕ) → Before n h i i → ⊥
@@ -19,17 +19,33 @@ along n h m p j (from_front a b) (straight d e) = absurd (omega arith)
 along n h m p j (from_front a b) (to_end d e f) = absurd (omega arith)
 along n h m p j (from_front a b) (from_front d e) = from_front d (omega arith)
 
--- a place past the hole p to which the search went on: from the hole up to f, to the end
-pub past_upper : (n h p f i : ℕ) → p < f → f < n → Before n h p i → (p < i → f < i) → Before n h f i
-past_upper n h p f i pf fn (straight lo lt) past = straight (omega arith) (past lt)
-past_upper n h p f i pf fn (to_end lt lo hi) past = to_end lt (omega arith) fn
-past_upper n h p f i pf fn (from_front lt hi) past = from_front lt (past hi)
+-- of two places one comes before the other
+pub order : (n h i j : ℕ) → i < n → j < n → (i ≡ j → ⊥) → Before n h i j ⊎ Before n h j i
+order n h i j lo hi ne =
+    ⊎_elim
+    (λ (a : i < h).
+    ⊎_elim
+    (λ (b : j < h). ⊎_elim (λ (lt : i < j). inl (from_front b lt)) (λ (ge : j ≤ i). inr (from_front a (omega arith))) (cases_lt i j))
+    (λ (b : h ≤ j). inr (to_end a b hi))
+    (cases_lt j h))
+    (λ (a : h ≤ i).
+    ⊎_elim
+    (λ (b : j < h). inl (to_end b a lo))
+    (λ (b : h ≤ j). ⊎_elim (λ (lt : i < j). inl (straight a lt)) (λ (ge : j ≤ i). inr (straight b (omega arith))) (cases_lt i j))
+    (cases_lt j h))
+    (cases_lt i h)
 
--- the same where the search went to the end with no place, and then from the front up to f
-pub past_lower : (n h p f i : ℕ) → f < p → Before n h p i → (p < i → ⊥) → f < i → Before n h f i
-past_lower n h p f i fp (straight lo lt) none past = absurd (none lt)
-past_lower n h p f i fp (to_end lt lo hi) none past = from_front lt past
-past_lower n h p f i fp (from_front lt hi) none past = absurd (none hi)
+-- where a way from h passes p, what lies between p and its end lies on it
+pub beyond : (n h p f i : ℕ) → Before n h p i → Before n (p + 1) f i → Before n h f i
+beyond n h p f i (straight a b) (straight c d) = straight (omega arith) d
+beyond n h p f i (straight a b) (to_end c d e) = absurd (omega arith)
+beyond n h p f i (straight a b) (from_front c d) = absurd (omega arith)
+beyond n h p f i (to_end a b c) (straight d e) = absurd (omega arith)
+beyond n h p f i (to_end a b c) (to_end d e f1) = to_end a (omega arith) f1
+beyond n h p f i (to_end a b c) (from_front d e) = from_front a e
+beyond n h p f i (from_front a b) (straight c d) = from_front a d
+beyond n h p f i (from_front a b) (to_end c d e) = absurd (omega arith)
+beyond n h p f i (from_front a b) (from_front c d) = absurd (omega arith)
 
 -- How far along a place is: places before the start come after those up to the end.
 unfoldable pub far : ℕ → ℕ → ℕ → ℕ

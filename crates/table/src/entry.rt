@@ -1,42 +1,53 @@
 // The entries of a map and the keys that it takes; nothing here reads or writes a map.
-ghost use Rattle.std.specs.Prelude.{◌≡◌, ℕ, MatchBool, ◌≢◌};
+ghost use Rattle.std.specs.Prelude.{◌≡◌, ℕ, Decides};
+ghost use Rattle.table.specs.Search.{hit_of};
 
 // One place of a map: free, or used by a key with its value.
-#[derive(Clone, Copy)]
-pub enum Entry<K, V> {
-    Free,
-    Used(K, V),
-}
+pub type Entry<K, V> = Option<(K, V)>;
 
 // The refusal of a new key where every entry is used.
 #[derive(Clone, Copy, Debug)]
 pub struct Full;
 
-// Where a search found what it looked for, and what that is.
+// Where a search found the key that it looked for, and the key's value.
+// Kept: two fields, of which the place is where and the value what: neither is a count or a flag of the other.
 #[derive(Clone, Copy)]
-pub struct Hit<T> {
+pub struct Hit<V> {
     pub place: usize,
-    pub value: T,
+    pub value: V,
 }
 
 // How a search ended: where it found what it looked for, at a free entry, or past the last of its entries.
 #[derive(Clone, Copy)]
-pub enum Scan<T> {
-    Found(Hit<T>),
+pub enum Scan<V> {
+    Found(Hit<V>),
     Stopped(usize),
     Through,
 }
 
-// What a map asks of a key: `same` decides whether two keys are one value, and the hash is a function of the value, so
-// that equal keys hash alike.
-pub trait Key {
-    ghost hashes: { Self → ℕ };
+impl<V> Scan<V> {
+    // What was found, if anything was.
+    pub fn found(self) -> Option<Hit<V>>
+    where
+        V: Copy,
+        ensures { result ≡ hit_of self }
+    {
+        match self {
+            Scan::Found(x) => Some(x),
+            Scan::Stopped(_) | Scan::Through => None,
+        }
+    }
+}
 
-    // Whether the two keys are the same value.
-    fn same(&self, other: &Self) -> bool
-        ensures { MatchBool result (self.now ≡ other.now) (self.now ≢ other.now) };
+// What a map asks of a key: `==` tells whether two keys are one value, and the hash is a function of the value, so that
+// equal keys hash alike.
+pub trait Key: Eq {
+    ghost hashes: { Self → ℕ };
 
     // The key's hash; a search starts at its remainder by the number of entries.
     fn hash(&self) -> usize
         ensures { result ≡ hashes self.now };
+
+    // Equal keys are one value.
+    ghost same: { (a b : Self) → Decides (Self.eq a b) (a ≡ b) };
 }

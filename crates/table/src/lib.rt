@@ -7,6 +7,7 @@ mod shift;
 #[cfg(test)]
 mod tests;
 mod unused;
+mod walk;
 
 pub use entry::{Entry, Full, Key};
 pub use map::{get, insert, remove};

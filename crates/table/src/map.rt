@@ -1,22 +1,20 @@
 // The calls of a map: they touch the entries that they are lent, and nothing else. A search starts at the key's hash and
 // ends at the key or at a free entry.
-ghost use Rattle.std.specs.Prelude.{◌≡◌, ◌%◌, ◌<◌, ◌≤◌, true, length, is_ok, Some, None};
-ghost use Rattle.table.specs.Maps.{Probed, Maps, used, Inserted, Put, Taken};
-ghost use Rattle.table.specs.Search.{At, Each, Other, Scanned, Searched, Vacant};
+// Kept: entries and key as parameters, since by a rule of the project the entries are lent at each call.
+ghost use Rattle.std.specs.Prelude.{◌≡◌, ◌<◌, true, length, is_ok, Some, None};
+ghost use Rattle.table.specs.Maps.{Probed, Maps, used, Inserted, Taken};
+ghost use Rattle.table.specs.Search.{At, Searched};
 
 use super::entry::{Entry, Full, Hit, Key, Scan};
 use super::shift::close;
+use super::walk::walk;
 
 // The value of the key.
 pub fn get<K: Key + Copy, V: Copy>(entries: &[Entry<K, V>], key: K) -> Option<V>
     ensures meaning { Probed K.Key.hashes entries.now → Maps entries.now key result }
     ensures stands { (v : V) → result ≡ Some v → Maps entries.now key (Some v) }
 {
-    match find(entries, key) {
-        Scan::Found(x) => Some(x.value),
-        Scan::Stopped(_f) => None,
-        Scan::Through => None,
-    }
+    find(entries, key).found().map(|x| x.value)
 }
 
 // Gives the key this value, and answers what it had.
@@ -30,11 +28,11 @@ pub fn insert<K: Key + Copy, V: Copy>(
 {
     match find(entries, key) {
         Scan::Found(x) => {
-            overwrite(entries, x, key, value);
+            entries[x.place] = Some((key, value));
             Ok(Some(x.value))
         }
-        Scan::Stopped(f) => {
-            fill(entries, f, key, value);
+        Scan::Stopped(free) => {
+            entries[free] = Some((key, value));
             Ok(None)
         }
         Scan::Through => Err(Full),
@@ -45,30 +43,9 @@ pub fn insert<K: Key + Copy, V: Copy>(
 pub fn remove<K: Key + Copy, V: Copy>(entries: &mut [Entry<K, V>], key: K) -> Option<V>
     ensures { Taken K.Key.hashes entries.old key result entries.new }
 {
-    match find(entries, key) {
-        Scan::Found(x) => {
-            take_out(entries, x, key);
-            Some(x.value)
-        }
-        Scan::Stopped(_f) => None,
-        Scan::Through => None,
-    }
-}
-
-// Gives the key, which stands at `x`, another value.
-fn overwrite<K: Key + Copy, V: Copy>(entries: &mut [Entry<K, V>], x: Hit<V>, key: K, value: V)
-    requires { At entries.old key x.place x.value }
-    ensures { Put K.Key.hashes entries.old key value (Some x.value) entries.new }
-{
-    entries[x.place] = Entry::Used(key, value);
-}
-
-// Gives the key, which has no entry yet, the free entry `f`.
-fn fill<K: Key + Copy, V: Copy>(entries: &mut [Entry<K, V>], f: usize, key: K, value: V)
-    requires { Vacant K.Key.hashes entries.old key f }
-    ensures { Put K.Key.hashes entries.old key value None entries.new }
-{
-    entries[f] = Entry::Used(key, value);
+    let x = find(entries, key).found()?;
+    take_out(entries, x, key);
+    Some(x.value)
 }
 
 // Frees the entry of the key, which stands at `x`, and closes the hole.
@@ -76,7 +53,7 @@ fn take_out<K: Key + Copy, V: Copy>(entries: &mut [Entry<K, V>], x: Hit<V>, key:
     requires { At entries.old key x.place x.value }
     ensures { Taken K.Key.hashes entries.old key (Some x.value) entries.new }
 {
-    entries[x.place] = Entry::Free;
+    entries[x.place] = None;
     close(entries, x.place);
 }
 
@@ -88,41 +65,6 @@ fn find<K: Key + Copy, V: Copy>(entries: &[Entry<K, V>], key: K) -> Scan<V>
     if n == 0 {
         return Scan::Through;
     }
-    let h = key.hash() % n;
-    match scan(entries, key, h, n) {
-        Scan::Found(x) => Scan::Found(x),
-        Scan::Stopped(f) => Scan::Stopped(f),
-        Scan::Through => find_from_front(entries, key, h),
-    }
-}
-
-// The rest of the search for the key, where it passed every entry from its hash `h` on.
-fn find_from_front<K: Key + Copy, V: Copy>(entries: &[Entry<K, V>], key: K, h: usize) -> Scan<V>
-    requires within { h < length entries.now }
-    requires home { h ≡ K.Key.hashes key % length entries.now }
-    requires passed { Each (Other key) entries.now h (length entries.now) }
-    ensures { Searched K.Key.hashes entries.now key result }
-{
-    scan(entries, key, 0, h)
-}
-
-// The key among the entries from `from` up to `to`, of which none after a free one is looked at.
-fn scan<K: Key + Copy, V: Copy>(entries: &[Entry<K, V>], key: K, from: usize, to: usize) -> Scan<V>
-    requires { (from ≤ to) × (to ≤ length entries.now) }
-    ensures { Scanned (At entries.now key) (Other key) entries.now from to result }
-{
-    for i in from..to {
-        let e = entries[i];
-        match e {
-            Entry::Used(k, v) => {
-                if k.same(&key) {
-                    return Scan::Found(Hit { place: i, value: v });
-                }
-            }
-            Entry::Free => {
-                return Scan::Stopped(i);
-            }
-        }
-    }
-    Scan::Through
+    let home = key.hash() % n;
+    walk(entries, home, home, |_, k| k == key)
 }

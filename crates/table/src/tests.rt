@@ -1,17 +1,17 @@
 // The map as a holder uses it. The tests' keys hash to their own value, so that a test chooses where a key is looked for.
-use super::entry::{Entry, Key};
+ghost use Rattle.std.proofs.Common.{rules};
+
+use super::entry::Key;
 use super::map::{get, insert, remove};
 use std::test::Fail;
 
-#[derive(Clone, Copy)]
+#[derive(Clone, Copy, PartialEq, Eq)]
 struct Small(u8);
 
 impl Key for Small {
     ghost hashes = { λ k. k.0 };
 
-    fn same(&self, other: &Small) -> bool {
-        self.0 == other.0
-    }
+    ghost same = { Prim.search rules };
 
     fn hash(&self) -> usize {
         self.0 as usize
@@ -20,7 +20,7 @@ impl Key for Small {
 
 #[test]
 fn insert_answers_the_old_value(rt: HostRuntime) -> Result<(), Fail> {
-    let mut entries = [Entry::Free; 4];
+    let mut entries = [None; 4];
     assert_eq!(rt; insert(&mut entries, Small(1), 10u8)?, None);
     assert_eq!(rt; insert(&mut entries, Small(1), 11)?, Some(10));
     assert_eq!(rt; get(&entries, Small(1)), Some(11));
@@ -30,7 +30,7 @@ fn insert_answers_the_old_value(rt: HostRuntime) -> Result<(), Fail> {
 
 #[test]
 fn remove_answers_the_value_and_forgets_the_key(rt: HostRuntime) -> Result<(), Fail> {
-    let mut entries = [Entry::Free; 4];
+    let mut entries = [None; 4];
     insert(&mut entries, Small(1), 10u8)?;
     assert_eq!(rt; remove(&mut entries, Small(1)), Some(10));
     assert_eq!(rt; remove(&mut entries, Small(1)), None);
@@ -40,7 +40,7 @@ fn remove_answers_the_value_and_forgets_the_key(rt: HostRuntime) -> Result<(), F
 
 #[test]
 fn a_full_map_refuses_new_keys_alone(rt: HostRuntime) -> Result<(), Fail> {
-    let mut entries = [Entry::Free; 2];
+    let mut entries = [None; 2];
     insert(&mut entries, Small(0), 10u8)?;
     insert(&mut entries, Small(1), 11)?;
     assert!(rt; insert(&mut entries, Small(2), 12).is_err());
@@ -52,7 +52,7 @@ fn a_full_map_refuses_new_keys_alone(rt: HostRuntime) -> Result<(), Fail> {
 // 3, 7 and 11 are all looked for from the last entry on, so that 7 stands at the front until 3 goes.
 #[test]
 fn remove_leaves_a_colliding_key_in_reach(rt: HostRuntime) -> Result<(), Fail> {
-    let mut entries = [Entry::Free; 4];
+    let mut entries = [None; 4];
     insert(&mut entries, Small(3), 10u8)?;
     insert(&mut entries, Small(7), 11)?;
     assert_eq!(rt; remove(&mut entries, Small(3)), Some(10));

@@ -1,10 +1,8 @@
-use Rattle.std.proofs.Common.{arith, rules}
+use Rattle.table.proofs.Writing.{put_at, put_free}
 use Rattle.table.proofs.map.insert.Goals as goal
 
-pub returns-in-Through : goal.returns-in-Through
-returns-in-Through g c =
-    let filled = c.in-Through.ensures in
-    record {
-      meaning = record { same = search rules; full = filled.full; new = filled.missing };
-      fits = λ h. absurd (omega arith);
-    }
+pub returns-in-Found-clause-meaning : goal.returns-in-Found-clause-meaning
+returns-in-Found-clause-meaning g c = put_at _ _ _ _ _ _ c.in-Found.ensures
+
+pub returns-in-Stopped-clause-meaning : goal.returns-in-Stopped-clause-meaning
+returns-in-Stopped-clause-meaning g c = put_free _ _ _ _ _ c.in-Stopped.ensures

@@ -1,8 +1,7 @@
-use Rattle.table.proofs.Writing.{take_none}
+use Rattle.std.proofs.Common.{rules}
+use Rattle.table.proofs.Searching.{got}
+use Rattle.table.proofs.Taking.{take_none}
 use Rattle.table.proofs.map.remove.Goals as goal
 
-pub returns-in-Stopped : goal.returns-in-Stopped
-returns-in-Stopped g c = take_none _ _ _ c.in-Stopped.ensures.missing
-
-pub returns-in-Through : goal.returns-in-Through
-returns-in-Through g c = take_none _ _ _ (λ p. c.in-Through.ensures.missing)
+pub returns-in_err-x : goal.returns-in_err-x
+returns-in_err-x g c = take_none _ _ _ _ (search rules) (got _ _ _ _ _ c.find.ensures (search rules))
