@@ -1,99 +1,94 @@
 -- From what the code leaves in its vectors to what the places mean. Assumes nothing.
-use Rattle.std.proofs.Common.{◌≡◌, ℕ, ◌+◌, ◌-◌, ◌<◌, ◌≤◌, Bool, true, false, cond, eqb, List, [], ◌∷◌, ◌++◌, length, get_or, take, set, vec_items, vec_len, vec_capacity, sym, refl, ap, ◌∙◌, subst, arith}
-use Rattle.std.proofs.lemmas.List.{get_or_past, get_or_read}
+use Rattle.std.proofs.Common.{◌≡◌, ℕ, ◌+◌, ◌-◌, ◌<◌, ◌≤◌, Bool, true, false, cond, eqb, List, [], ◌∷◌, ◌++◌, length, take, set, replicate, ◌⊎◌, ⊎_elim, vec_items, vec_len, vec_capacity, sym, refl, ap, ◌∙◌, subst, arith}
+use Rattle.std.specs.List.{AllByRecursion as All}
 use Rattle.std.proofs.lemmas.Bool.{eq-eqb, ne_eqb}
+use Rattle.std.proofs.lemmas.List.{length-map, map-set}
+use Rattle.arena.specs.declared.arena.Arena.{Arena}
 use Rattle.arena.specs.declared.handle.Handle.{Handle}
-use Rattle.arena.specs.declared.places.Places.{Places}
+use Rattle.arena.specs.declared.slot.Place.{Place}
 use Rattle.arena.specs.declared.slot.Slot.{Slot}
 use Rattle.arena.specs.declared.slot.State.TheVariants.{Live}
-use Rattle.arena.specs.Pools.{last_version, unused, Pool, slot_at, live_slot, live, room, next_place, next, take_place, raised, free_place, Sound}
-use Rattle.arena.specs.Placed.{pool}
-use Rattle.arena.proofs.Pooling.{whole, next_within, taken_most, freed_fits, live_within}
+use Rattle.arena.specs.Pools.{last_version, Pool, live, next, take_place, raised, free_place, Sound}
+use Rattle.arena.specs.Shelves.{pool_of, slots_of}
+use Rattle.arena.specs.Recorded.{shelf}
+use Rattle.arena.proofs.Pooling.{whole, taken_most, freed_fits}
 
--- what always holds of the places, out of the struct's ghost field
-pub sound : (s : Places) → Sound (pool s)
-sound s = whole (pool s) s.sound
+-- the lowest place never used, after a taking that found no freed place, and after one that found one
+pub fresh_rises : (p : Pool) → length p.freed ≡ 0 → p.fresh + 1 ≡ (take_place p).fresh
+unfolding take_place
+fresh_rises p e = ap (λ (b : Bool). cond b (p.fresh + 1) p.fresh) (sym (eq-eqb _ _ e))
 
-pub long : (s : Places) → vec_len s.slots ≡ length (vec_items s.slots)
-long s = s.slots.ok.0
-
-pub dead_past : (s : Places) (h : Handle) → vec_len s.slots ≤ h.place → false ≡ live (pool s) h
-dead_past s h ge =
-    let l = long s in
-    let past : length (vec_items s.slots) ≤ h.place = omega arith in
-    sym (ap (λ (x : Slot). live_slot x h.version) (get_or_past (vec_items s.slots) h.place unused past))
+pub fresh_stays : (p : Pool) → (length p.freed ≡ 0 → ⊥) → p.fresh ≡ (take_place p).fresh
+unfolding take_place
+fresh_stays p ne = ap (λ (b : Bool). cond b (p.fresh + 1) p.fresh) (sym (ne_eqb _ _ ne))
 
 four : {A B C D E : Type 0} (f : A → B → C → D → E) {a a' : A} {b b' : B} {c c' : C} {d d' : D} → a ≡ a' → b ≡ b' → c ≡ c' → d ≡ d' → f a b c d ≡ f a' b' c' d'
 four f p q r s = cc
 
-abbrev pub parts : List Slot → List ℕ → ℕ → ℕ → Pool
+abbrev parts : List Slot → List ℕ → ℕ → ℕ → Pool
 parts slots freed fresh taken = record { slots = slots; freed = freed; fresh = fresh; taken = taken }
 
-taken_slots : (p : Pool) (h : Handle) → h ≡ next p → set p.slots h.place (record { version = h.version; state = Live }) ≡ (take_place p).slots
-unfolding take_place
-taken_slots p h e = ap (λ (k : Handle). set p.slots k.place (record { version = k.version; state = Live })) e
-
-taken_freed : (p : Pool) (n : ℕ) → n ≡ length p.freed → take (n - 1) p.freed ≡ (take_place p).freed
-unfolding take_place
-taken_freed p n e = ap (λ (m : ℕ). take (m - 1) p.freed) e
-
-taken_taken : (p : Pool) → p.taken + 1 ≡ (take_place p).taken
-unfolding take_place
-taken_taken p = refl
-
 -- the places after a taking, from what the code leaves
-pub took : (s : Places) (h : Handle) (freed : List ℕ) (fresh : ℕ) → h ≡ next (pool s) → freed ≡ take (vec_len s.freed - 1) (vec_items s.freed) → fresh ≡ (take_place (pool s)).fresh
-    → ◌≡◌ {A = Pool} (record { slots = set (vec_items s.slots) h.place (record { version = h.version; state = Live }); freed = freed; fresh = fresh; taken = s.taken + 1 }) (take_place (pool s))
-took s h freed fresh e f g =
-    four parts (taken_slots (pool s) h e) (f ∙ taken_freed (pool s) (vec_len s.freed) s.freed.ok.0) g (taken_taken (pool s))
+taken_parts : (p : Pool) (h : Handle) (slots : List Slot) (freed : List ℕ) (fresh n : ℕ) → h ≡ next p → slots ≡ set p.slots h.place (record { version = h.version; state = Live })
+    → n ≡ length p.freed → freed ≡ take (n - 1) p.freed → fresh ≡ (take_place p).fresh → parts slots freed fresh (p.taken + 1) ≡ take_place p
+unfolding take_place
+taken_parts p h slots freed fresh n e s l f g =
+    four parts (s ∙ ap (λ (k : Handle). set p.slots k.place (record { version = k.version; state = Live })) e) (f ∙ ap (λ (m : ℕ). take (m - 1) p.freed) l) g refl
+
+-- the places after a freeing, from the freed places that the code leaves
+freed_parts : (h : Handle) (p : Pool) (slots : List Slot) (x : Slot) (freed : List ℕ) (b : Bool) → slots ≡ set p.slots h.place x → x ≡ raised h.version → eqb h.version last_version ≡ b
+    → freed ≡ cond b p.freed (p.freed ++ h.place ∷ []) → parts slots freed p.fresh p.taken ≡ free_place h p
+unfolding free_place
+freed_parts h p slots x freed b s e z f =
+    four parts (s ∙ ap (set p.slots h.place) e) (f ∙ ap (λ (c : Bool). cond c p.freed (p.freed ++ h.place ∷ [])) (sym z)) refl refl
 
 pub sound_as : (p q : Pool) → p ≡ q → Sound q → ∥ Sound p ∥₁
 sound_as p q e s = ∣ subst Sound (sym e) s ∣₁
 
--- the places after a freeing, from the freed places that the code leaves
-freed_as : (h : Handle) (p : Pool) (x : Slot) (freed : List ℕ) (b : Bool) → x ≡ raised h.version → eqb h.version last_version ≡ b → freed ≡ cond b p.freed (p.freed ++ h.place ∷ [])
-    → parts (set p.slots h.place x) freed p.fresh p.taken ≡ free_place h p
-unfolding free_place
-freed_as h p x freed b e z f =
-    four parts (ap (set p.slots h.place) e) (f ∙ ap (λ (c : Bool). cond c p.freed (p.freed ++ h.place ∷ [])) (sym z)) refl refl
+module _ {T : Type 0} where
+  -- what always holds of the places, out of the struct's ghost field
+  pub sound : (a : Arena T) → Sound (shelf a).pool
+  sound a = whole (shelf a).pool a.sound
 
--- at the last version no place comes back
-pub retired : (s : Places) (h : Handle) (x : Slot) → x ≡ raised h.version → h.version ≡ last_version
-    → parts (set (vec_items s.slots) h.place x) (vec_items s.freed) s.fresh s.taken ≡ free_place h (pool s)
-retired s h x e v = freed_as h (pool s) x (vec_items s.freed) true e (eq-eqb _ _ v) refl
+  pub long : (a : Arena T) → vec_len a.places ≡ length (shelf a).pool.slots
+  long a = a.places.ok.0 ∙ sym (length-map a.places.items _)
 
--- where the next place is, in the vector's own length
-pub next_in : (s : Places) → 0 < room (pool s) → next_place (pool s) < vec_len s.slots
-next_in s h = let l = long s in let n = next_within (pool s) (sound s) h in omega arith
+  slots_set : (ps : List (Place T)) (n : ℕ) (p : Place T) → slots_of (set ps n p) ≡ set (slots_of ps) n p.slot
+  slots_set ps n p = map-set (λ (q : Place T). q.slot) ps n p
 
-pub live_in : (s : Places) (h : Handle) → live (pool s) h ≡ true → h.place < vec_len s.slots
-live_in s h e = let l = long s in let n = live_within (pool s) h e in omega arith
+  pub took : (a : Arena T) (h : Handle) (x : T) (freed : List ℕ) (fresh : ℕ) → h ≡ next (shelf a).pool → freed ≡ take (vec_len a.freed - 1) (vec_items a.freed)
+      → fresh ≡ (take_place (shelf a).pool).fresh
+      → pool_of (set (vec_items a.places) h.place (record { slot = record { version = h.version; state = Live }; value = x })) freed fresh (a.taken + 1) ≡ take_place (shelf a).pool
+  took a h x freed fresh e f g =
+      taken_parts (shelf a).pool h _ freed fresh (vec_len a.freed) e (slots_set (vec_items a.places) h.place _) a.freed.ok.0 f g
 
--- one more freed place needs no memory
-pub push_fits : (s : Places) (h : Handle) → live (pool s) h ≡ true → vec_len s.freed < vec_capacity s.freed
-push_fits s h e =
-    let l = long s in
-    let n = freed_fits (pool s) h (sound s) e in
-    let k = s.freed.ok.0 in
-    let m = s.roomy in
-    omega arith
+  -- at the last version no place comes back
+  pub retired : (a : Arena T) (h : Handle) (p : Place T) → p.slot ≡ raised h.version → h.version ≡ last_version
+      → pool_of (set (vec_items a.places) h.place p) (vec_items a.freed) a.fresh a.taken ≡ free_place h (shelf a).pool
+  retired a h p e v = freed_parts h (shelf a).pool _ p.slot (vec_items a.freed) true (slots_set (vec_items a.places) h.place p) e (eq-eqb _ _ v) refl
 
-pub count_fits : (s : Places) → s.taken ≤ 281474976710655
-count_fits s = let l = long s in let f = s.few in taken_most (pool s) (sound s) (omega arith)
+  -- at any other version the place comes back
+  pub renewed : (a : Arena T) (h : Handle) (p : Place T) (freed : List ℕ) → p.slot ≡ raised h.version → h.version < last_version → freed ≡ vec_items a.freed ++ h.place ∷ []
+      → pool_of (set (vec_items a.places) h.place p) freed a.fresh a.taken ≡ free_place h (shelf a).pool
+  renewed a h p freed e lt items = freed_parts h (shelf a).pool _ p.slot freed false (slots_set (vec_items a.places) h.place p) e (ne_eqb _ _ (λ z. omega arith)) items
 
--- at any other version the place comes back, and the push needs no memory
-pub renewed : (s : Places) (h : Handle) (x : Slot) (freed : List ℕ) (pushed : Bool) → x ≡ raised h.version → live (pool s) h ≡ true → (h.version ≡ last_version → ⊥)
-    → (vec_len s.freed < vec_capacity s.freed → pushed ≡ true) → freed ≡ cond pushed (vec_items s.freed ++ h.place ∷ []) (vec_items s.freed)
-    → parts (set (vec_items s.slots) h.place x) freed s.fresh s.taken ≡ free_place h (pool s)
-renewed s h x freed pushed e l ne ok items =
-    freed_as h (pool s) x freed false e (ne_eqb _ _ ne)
-    (items ∙ ap (λ (b : Bool). cond b (vec_items s.freed ++ h.place ∷ []) (vec_items s.freed)) (ok (push_fits s h l)))
+  -- one more freed place needs no memory
+  pub push_fits : (a : Arena T) (h : Handle) → live (shelf a).pool h ≡ true → vec_len a.freed < vec_capacity a.freed
+  push_fits a h e =
+      let l = long a in
+      let n = freed_fits (shelf a).pool h (sound a) e in
+      let k = a.freed.ok.0 in
+      let m = a.roomy in
+      omega arith
 
--- the handle of the next place, from the slot that was read there
-pub next_is : (s : Places) (n : ℕ) (x : Slot) → 0 < room (pool s) → n ≡ next_place (pool s) → x ≡ get_or (vec_items s.slots) n x → ◌≡◌ {A = Handle} (record { place = n; version = x.version }) (next (pool s))
-next_is s n x h e read =
-    let l = long s in
-    let lt = next_in s h in
-    let inner : n < length (vec_items s.slots) = omega arith in
-    let is : x ≡ slot_at (pool s) n = get_or_read (vec_items s.slots) n x inner read unused in
-    ap (λ (y : Slot). record { place = n; version = y.version }) is ∙ ap (λ (m : ℕ). record { place = m; version = (slot_at (pool s) m).version }) e
+  pub count_fits : (a : Arena T) → a.taken ≤ 281474976710655
+  count_fits a = let l = long a in let f = a.few in taken_most (shelf a).pool (sound a) (omega arith)
+
+  -- the places that a new arena is filled with: each is a clone of one
+  pub cloned_slots : (P : Place T → Type 0) (p : Place T) (ps : List (Place T)) → All (λ q. (q ≡ p) ⊎ P q) ps → ((q : Place T) → P q → q.slot ≡ p.slot)
+      → slots_of ps ≡ replicate (length ps) p.slot
+  cloned_slots P p [] a same = refl
+  cloned_slots P p (q ∷ ps) a same =
+      let rest = cloned_slots P p ps a.1 same in
+      let first : q.slot ≡ p.slot = ⊎_elim (ap (λ (r : Place T). r.slot)) (same q) a.0 in
+      ap (λ (s : Slot). s ∷ slots_of ps) first ∙ ap (λ (ss : List Slot). p.slot ∷ ss) rest

@@ -1,12 +1,13 @@
 -- Taking and freeing keep what always holds of the places. Assumes nothing.
-use Rattle.std.proofs.Common.{◌≡◌, ℕ, zero, suc, ◌+◌, ◌-◌, ◌<◌, ◌≤◌, Bool, true, false, cond, eqb, List, [], ◌∷◌, ◌++◌, length, get_or, take, set, replicate, sum_by, sym, refl, ap, ◌∙◌, subst, ⊎_elim, arith, eq-eqb}
+use Rattle.std.proofs.Common.{◌≡◌, ℕ, zero, suc, ◌+◌, ◌-◌, ◌<◌, ◌≤◌, Bool, true, false, cond, eqb, List, [], ◌∷◌, ◌++◌, length, get_or, take, set, replicate, sym, refl, ap, ◌∙◌, subst, ⊎_elim, arith, eq-eqb}
 use mathlib.Core.Logic.{∥∥₁_elim}
 use native.Mathlib.Bridge.{le_prop}
 use native.Mathlib.Nat.{ℕ_set}
-use Rattle.std.specs.List.{AllByRecursion as All}
+use Rattle.std.specs.List.{All}
 use Rattle.std.proofs.lemmas.List.{get_or_past, get_or-set_same, get_or-set_other, get_or-take, get_or_push, get_or_append_left, length-set, length_push, length-take-le, length-replicate}
-use Rattle.std.proofs.lemmas.List.Sums.{sum_by-set, sum_by-cons}
-use Rattle.std.proofs.ByRecursion.{sum_by_le}
+use Rattle.std.proofs.lemmas.List.Sums.{sum_by-set, sum_by-le}
+use Rattle.std.proofs.lemmas.List.Folds.{sum_by-replicate}
+use Rattle.std.proofs.lemmas.List.Elements.{All-from_get_or}
 use Rattle.std.proofs.lemmas.Bool.{cases_eq, cases_lt, eqb-true, eqb-false, ne_eqb, and_parts}
 use Rattle.arena.specs.declared.handle.Handle.{Handle}
 use Rattle.arena.specs.declared.slot.Slot.{Slot}
@@ -49,23 +50,12 @@ live_full Vacant e = let z : ◌≡◌ {A = ℕ} 0 1 = cc in absurd (omega arith
 live_full Live e = refl
 live_full Retired e = refl
 
-wear_least : (s : State) (v : ℕ) → v ≤ wear_of s v
-wear_least Vacant v = omega arith
-wear_least Live v = omega arith
-wear_least Retired v = omega arith
-
 wear_most : (s : State) (v : ℕ) → wear_of s v ≤ v + 1
 wear_most Vacant v = omega arith
 wear_most Live v = omega arith
 wear_most Retired v = omega arith
 
 -- Which place is next.
-
-pub next_none : (p : Pool) → length p.freed ≡ 0 → next_place p ≡ p.fresh
-next_none p e = ap (λ (b : Bool). cond b p.fresh (get_or p.freed (length p.freed - 1) 0)) (eq-eqb _ _ e)
-
-pub next_last : (p : Pool) → eqb (length p.freed) 0 ≡ false → next_place p ≡ get_or p.freed (length p.freed - 1) 0
-next_last p e = ap (λ (b : Bool). cond b p.fresh (get_or p.freed (length p.freed - 1) 0)) e
 
 -- What is known of the next place where one is left.
 pub record Ready (p : Pool) (n : ℕ) (fresh : ℕ) : Type 0 where
@@ -217,14 +207,11 @@ room_take p s h =
 
 -- The count of takings is far from the largest number of 64 bits.
 
-all_worn : (m : ℕ) (xs : List Slot) → ((k : ℕ) → (get_or xs k unused).version ≤ m) → All (λ x. wear x ≤ m + 1) xs
-all_worn m [] small = tt
-all_worn m (x ∷ xs) small =
-    (let b = small 0 in let w = wear_most x.state x.version in omega arith, all_worn m xs (λ k. small (suc k)))
-
 pub taken_most : (p : Pool) → Sound p → length p.slots ≤ 65535 → p.taken ≤ 281474976710655
 taken_most p s few =
-    let sum = sum_by_le wear (last_version + 1) p.slots (all_worn last_version p.slots s.small) in
+    let worn : All (λ x. wear x ≤ last_version + 1) p.slots
+    = All-from_get_or (λ x. wear x ≤ last_version + 1) p.slots unused (λ k _. let b = s.small k in let w = wear_most (slot_at p k).state (slot_at p k).version in omega arith) in
+    let sum = sum_by-le wear (last_version + 1) p.slots worn in
     let count = s.counted in
     omega arith
 
@@ -259,6 +246,10 @@ free_apart p h s e i lt same =
     let f = live_full (slot_at p h.place).state (live_parts p h e).0 in
     let w : vacancy (slot_at p h.place) ≡ 1 = ap (λ (m : ℕ). vacancy (slot_at p m)) (sym same) ∙ v in
     omega arith
+
+-- the version of a live handle that is not below the last one
+pub last_is : (p : Pool) (h : Handle) → Sound p → live p h ≡ true → last_version ≤ h.version → h.version ≡ last_version
+last_is p h s e ge = let small = s.small h.place in let v = (live_parts p h e).1 in omega arith
 
 -- a place that is freed, with the slot that it then has and the freed places after it
 abbrev free_at : Pool → Handle → Slot → List ℕ → Pool
@@ -376,10 +367,6 @@ vacancy_one Vacant = omega arith
 vacancy_one Live = omega arith
 vacancy_one Retired = omega arith
 
-vacancy_most : (xs : List Slot) → sum_by vacancy xs ≤ length xs
-vacancy_most [] = omega arith
-vacancy_most (x ∷ xs) = let more = vacancy_most xs in let one = vacancy_one x.state in let step = sum_by-cons vacancy x xs in omega arith
-
 -- there is room for one more freed place
 pub freed_fits : (p : Pool) (h : Handle) → Sound p → live p h ≡ true → length p.freed < length p.slots
 freed_fits p h s e =
@@ -387,7 +374,9 @@ freed_fits p h s e =
     let full : vacancy (slot_at p h.place) ≡ 0 = live_full (slot_at p h.place).state (live_parts p h e).0 in
     let v = sum_by-set vacancy p.slots h.place unused unused in_List in
     let long : length (set p.slots h.place unused) ≡ length p.slots = length-set p.slots h.place unused in
-    let most = vacancy_most (set p.slots h.place unused) in
+    let after = set p.slots h.place unused in
+    let one : All (λ x. vacancy x ≤ 1) after = All-from_get_or (λ x. vacancy x ≤ 1) after unused (λ k _. vacancy_one (get_or after k unused).state) in
+    let most = sum_by-le vacancy 1 after one in
     let few = s.fewer in
     omega arith
 
@@ -398,10 +387,6 @@ unused_at zero k = refl
 unused_at (suc n) zero = refl
 unused_at (suc n) (suc k) = unused_at n k
 
-unused_sum : (f : Slot → ℕ) (n : ℕ) → f unused ≡ 1 → sum_by f (replicate n unused) ≡ n
-unused_sum f zero e = refl
-unused_sum f (suc n) e = let more = unused_sum f n e in let step = sum_by-cons f unused (replicate n unused) in omega arith
-
 pub unused_sound : (n : ℕ) → Sound (unused_pool n)
 unused_sound n = record {
   within = omega arith;
@@ -410,5 +395,5 @@ unused_sound n = record {
   never = λ k h. record { first = ap (λ (x : Slot). x.version) (unused_at n k); vacant = ap vacancy (unused_at n k) };
   small = λ k. let e : (get_or (replicate n unused) k unused).version ≡ 1 = ap (λ (x : Slot). x.version) (unused_at n k) in omega arith;
   fewer = omega arith;
-  counted = let l = length-replicate n unused in let w = unused_sum wear n refl in omega arith;
+  counted = let l = length-replicate n unused in let w = sum_by-replicate wear n unused in omega arith;
 }

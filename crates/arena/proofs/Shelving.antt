@@ -1,18 +1,22 @@
 -- A making and an end change what one handle names, and nothing else. Assumes nothing.
-use Rattle.std.proofs.Common.{◌≡◌, ℕ, ◌+◌, ◌<◌, Bool, true, false, cond, List, map, length, get_or, set, Some, None, vec_items, vec_len, Option, sym, refl, ap, ◌∙◌, subst, ⊎_elim, arith}
-use Rattle.std.proofs.lemmas.List.{get_or-map, get_or-set_same, get_or-set_other, length-map, length-set, map-set}
-use Rattle.std.proofs.lemmas.Bool.{cases_eq, eq-eqb, ne_eqb, and_left, and_right}
+use Rattle.std.proofs.Common.{◌≡◌, ℕ, zero, suc, ◌+◌, ◌<◌, ◌≤◌, Bool, true, false, cond, List, [], ◌∷◌, map, length, get_or, set, Some, None, vec_items, vec_len, vec_capacity, Option, sym, refl, ap, ◌∙◌, subst, ⊎_elim, arith}
+use mathlib.Core.HLevel.{is_prop→PathP}
+use mathlib.Core.Logic.{∥∥₁_prop}
+use native.Mathlib.Bridge.{le_prop}
+use Rattle.std.proofs.Math.Seq.{map-set_same}
+use Rattle.std.proofs.lemmas.List.{get_or_past, get_or-map, get_or-set_same, get_or-set_other, length-map, length-set, map-set}
+use Rattle.std.proofs.lemmas.Bool.{cases_eq, cases_lt, eq-eqb, ne_eqb, and_left, and_right, false_from_ne_true, true_from_ne_false}
 use Rattle.arena.specs.declared.arena.Arena.{Arena}
 use Rattle.arena.specs.declared.handle.Handle.{Handle}
-use Rattle.arena.specs.declared.places.Places.{Places}
+use Rattle.arena.specs.declared.slot.Place.{Place}
 use Rattle.arena.specs.declared.slot.Slot.{Slot}
 use Rattle.arena.specs.declared.slot.State.{State}
 use Rattle.arena.specs.declared.slot.State.TheVariants.{Vacant, Live, Retired}
-use Rattle.arena.specs.Placed.{pool, Taken, Released}
 use Rattle.arena.specs.Pools.{unused, Pool, slot_at, is_live, live_slot, live, room, next_place, next, take_place, raised, free_place, vacancy_of, vacancy, Sound}
-use Rattle.arena.specs.Shelves.{Shelf, item, at, entered, ended, Only}
-use Rattle.arena.specs.Recorded.{shelf, Entered, Ended}
-use Rattle.arena.proofs.Filling.{sound}
+use Rattle.arena.specs.Shelves.{Shelf, item, at, changed, entered, ended, pool_of, Only}
+use Rattle.arena.specs.Lending.{slots_kept}
+use Rattle.arena.specs.Recorded.{shelf, with_record, Entered, Ended}
+use Rattle.arena.proofs.Filling.{long, sound}
 use Rattle.arena.proofs.Pooling.{next_within, next_vacant, live_parts, live_within}
 
 -- Lengths.
@@ -20,28 +24,6 @@ use Rattle.arena.proofs.Pooling.{next_within, next_vacant, live_parts, live_with
 pub take_long : (p : Pool) → length (take_place p).slots ≡ length p.slots
 unfolding take_place
 take_long p = length-set p.slots (next_place p) _
-
-free_long : (h : Handle) (p : Pool) → length (free_place h p).slots ≡ length p.slots
-unfolding free_place
-free_long h p = length-set p.slots h.place _
-
-same_long : (s t : Places) → length (pool t).slots ≡ length (pool s).slots → vec_len t.slots ≡ vec_len s.slots
-same_long s t e = t.slots.ok.0 ∙ e ∙ sym s.slots.ok.0
-
--- what a taking and a freeing leave, whatever they answer, where the answer is known beforehand
-pub took_next : (s t : Places) (r : Option Handle) → 0 < room (pool s) → Taken s r t → pool t ≡ take_place (pool s)
-took_next s t None h e = let z = e.0 in absurd (omega arith)
-took_next s t (Some k) h e = e.2
-
-pub freed_live : (s t : Places) (h : Handle) (r : Bool) → live (pool s) h ≡ true → Released s h r t → pool t ≡ free_place h (pool s)
-freed_live s t h true e r = r.1
-freed_live s t h false e r = let z : ◌≡◌ {A = ℕ} 0 1 = cc in absurd (omega arith)
-
-pub taken_long : (s t : Places) → pool t ≡ take_place (pool s) → vec_len t.slots ≡ vec_len s.slots
-taken_long s t e = same_long s t (ap (λ (p : Pool). length p.slots) e ∙ take_long (pool s))
-
-pub freed_long : (s t : Places) (h : Handle) → pool t ≡ free_place h (pool s) → vec_len t.slots ≡ vec_len s.slots
-freed_long s t h e = same_long s t (ap (λ (p : Pool). length p.slots) e ∙ free_long h (pool s))
 
 -- Which handles are live.
 
@@ -125,6 +107,19 @@ module _ {T : Type 0} where
   pub at_dead : (a : Shelf T) (h : Handle) → live a.pool h ≡ false → at a h ≡ None
   at_dead a h e = ap (λ (b : Bool). cond b (item a.records h.place) None) e
 
+  item_there : (xs : List T) (n : ℕ) → n < length xs → item xs n ≡ None → ⊥
+  item_there [] n h e = omega arith
+  item_there (x ∷ xs) zero h e = let q : ◌≡◌ {A = ℕ} 0 1 = cc in omega arith
+  item_there (x ∷ xs) (suc n) h e = item_there xs n (omega arith) e
+
+  -- a handle names a record exactly while it is live
+  pub at_some : (a : Shelf T) (h : Handle) (x : T) → Some x ≡ at a h → live a.pool h ≡ true
+  at_some a h x e = true_from_ne_false _ (λ d. let n = at_dead a h d in let q : ◌≡◌ {A = ℕ} 0 1 = cc in omega arith)
+
+  pub at_none : (a : Shelf T) (h : Handle) → length a.records ≡ length a.pool.slots → None ≡ at a h → live a.pool h ≡ false
+  at_none a h l e =
+      false_from_ne_true _ (λ t. let n = live_within a.pool h t in item_there a.records h.place (omega arith) (sym (e ∙ at_live a h t)))
+
   same_at : (a b : Shelf T) (k : Handle) → slot_at b.pool k.place ≡ slot_at a.pool k.place → item b.records k.place ≡ item a.records k.place → at b k ≡ at a k
   same_at a b k s i =
       ap (λ (x : Slot). cond (live_slot x k.version) (item b.records k.place) None) s
@@ -197,78 +192,117 @@ module _ {T : Type 0} where
   }
 
   pub shelf_long : (a : Arena T) → length (shelf a).records ≡ length (shelf a).pool.slots
-  shelf_long a = sym a.records.ok.0 ∙ a.long ∙ a.places.slots.ok.0
+  shelf_long a = length-map a.places.items _ ∙ sym (length-map a.places.items _)
 
   -- what always holds of the places of an arena
   pub sound_shelf : (a : Arena T) → Sound (shelf a).pool
-  sound_shelf a = sound a.places
+  sound_shelf = sound
 
   -- A making and an end, from what the code leaves.
 
-  pub made_by : (a b : Arena T) (x : T) (h : Handle) → 0 < room (pool a.places) → h ≡ next (pool a.places) → pool b.places ≡ take_place (pool a.places)
-      → vec_items b.records ≡ set (vec_items a.records) h.place x → Entered a x h b
+  pub made_by : (a b : Arena T) (x : T) (h : Handle) → 0 < room (shelf a).pool → h ≡ next (shelf a).pool → (shelf b).pool ≡ take_place (shelf a).pool
+      → (shelf b).records ≡ set (shelf a).records h.place x → Entered a x h b
   made_by a b x h left given places records =
       let after : shelf b ≡ entered x (shelf a)
-      = ap (λ (p : Pool). record { pool = p; records = vec_items b.records }) places
-      ∙ ap (λ (xs : List T). record { pool = take_place (pool a.places); records = xs }) (records ∙ ap (λ (k : Handle). set (vec_items a.records) k.place x) given) in
-      let s = sound a.places in
+      = ap (λ (p : Pool). record { pool = p; records = (shelf b).records }) places
+      ∙ ap (λ (xs : List T). record { pool = take_place (shelf a).pool; records = xs }) (records ∙ ap (λ (k : Handle). set (shelf a).records k.place x) given) in
+      let s = sound a in
       let only = enter_only (shelf a) x s left (shelf_long a) in
       record {
         left = left;
         given = given;
         after = after;
-        new = ap (at (shelf a)) given ∙ at_dead (shelf a) (next (pool a.places)) (vacant_next (pool a.places) (next (pool a.places)) s left refl);
-        only = subst (λ (k : Handle). Only (at (shelf a)) (at (shelf b)) k (Some x)) (sym given) (subst (λ (c : Shelf T). Only (at (shelf a)) (at c) (next (pool a.places)) (Some x)) (sym after) only);
+        new = ap (at (shelf a)) given ∙ at_dead (shelf a) (next (shelf a).pool) (next_dead (shelf a).pool s left);
+        only = subst (λ (k : Handle). Only (at (shelf a)) (at (shelf b)) k (Some x)) (sym given) (subst (λ (c : Shelf T). Only (at (shelf a)) (at c) (next (shelf a).pool) (Some x)) (sym after) only);
       }
 
-  pub ended_by : (a b : Arena T) (h : Handle) → live (pool a.places) h ≡ true → pool b.places ≡ free_place h (pool a.places) → vec_items b.records ≡ vec_items a.records → Ended a h b
+  pub ended_by : (a b : Arena T) (h : Handle) → live (shelf a).pool h ≡ true → (shelf b).pool ≡ free_place h (shelf a).pool → (shelf b).records ≡ (shelf a).records → Ended a h b
   ended_by a b h was places records =
       let after : shelf b ≡ ended h (shelf a)
-      = ap (λ (p : Pool). record { pool = p; records = vec_items b.records }) places
-      ∙ ap (λ (xs : List T). record { pool = free_place h (pool a.places); records = xs }) records in
+      = ap (λ (p : Pool). record { pool = p; records = (shelf b).records }) places
+      ∙ ap (λ (xs : List T). record { pool = free_place h (shelf a).pool; records = xs }) records in
       record { was = was; after = after; only = subst (λ (c : Shelf T). Only (at (shelf a)) (at c) h None) (sym after) (end_only (shelf a) h was) }
 
-  -- a live handle's place lies within the records
-  pub live_records : (a : Arena T) (h : Handle) → live (shelf a).pool h ≡ true → h.place < vec_len a.records
-  live_records a h e = let n = live_within (pool a.places) h e in let l = shelf_long a in let m = a.records.ok.0 in omega arith
+  -- the places of a live handle and of the next one lie within the table
+  pub live_within_table : (a : Arena T) (h : Handle) → live (shelf a).pool h ≡ true → h.place < vec_len a.places
+  live_within_table a h e = let n = live_within (shelf a).pool h e in let l = long a in omega arith
 
-  pub next_records : (a : Arena T) (h : Handle) → 0 < room (shelf a).pool → h ≡ next (shelf a).pool → h.place < vec_len a.records
-  next_records a h r e =
-      let n = next_within (pool a.places) (sound a.places) r in
-      let p : h.place ≡ next_place (pool a.places) = ap (λ (k : Handle). k.place) e in
-      let l = shelf_long a in
-      let m = a.records.ok.0 in
+  pub live_within_items : (a : Arena T) (h : Handle) → live (shelf a).pool h ≡ true → h.place < length (vec_items a.places)
+  live_within_items a h e = let n = live_within_table a h e in let m = a.places.ok.0 in omega arith
+
+  pub next_within_table : (a : Arena T) (h : Handle) → 0 < room (shelf a).pool → h ≡ next (shelf a).pool → h.place < vec_len a.places
+  next_within_table a h r e =
+      let n = next_within (shelf a).pool (sound a) r in
+      let p : h.place ≡ next_place (shelf a).pool = ap (λ (k : Handle). k.place) e in
+      let l = long a in
       omega arith
 
-  -- what a read of the records at a live handle gives
-  pub read_at : (a : Arena T) (h : Handle) (x : T) → live (shelf a).pool h ≡ true → x ≡ get_or (vec_items a.records) h.place x → Some x ≡ at (shelf a) h
-  read_at a h x e r =
-      let n = live_within (pool a.places) h e in
-      let l = shelf_long a in
-      sym (at_live (shelf a) h e ∙ item_read (vec_items a.records) h.place x (omega arith) r)
+  -- what a read at a live handle gives
+  pub read_at : (a : Arena T) (h : Handle) (p : Place T) → live (shelf a).pool h ≡ true → p ≡ get_or (vec_items a.places) h.place p → at (shelf a) h ≡ Some p.value
+  read_at a h p e r =
+      let n = live_within_items a h e in
+      let l = length-map a.places.items (λ (q : Place T). q.value) in
+      at_live (shelf a) h e
+      ∙ item_read (shelf a).records h.place p.value (omega arith) (ap (λ (q : Place T). q.value) r ∙ sym (get_or-map (λ (q : Place T). q.value) a.places.items h.place p p.value n))
 
   -- a making keeps the table's length
-  pub entered_long : (a b : Arena T) (x : T) → shelf b ≡ entered x (shelf a) → vec_len b.records ≡ vec_len a.records
+  pub entered_long : (a b : Arena T) (x : T) → shelf b ≡ entered x (shelf a) → vec_len b.places ≡ vec_len a.places
   entered_long a b x e =
-      b.records.ok.0 ∙ ap (λ (c : Shelf T). length c.records) e ∙ length-set (vec_items a.records) (next_place (pool a.places)) x ∙ sym a.records.ok.0
+      long b ∙ ap (λ (c : Shelf T). length c.pool.slots) e ∙ take_long (shelf a).pool ∙ sym (long a)
 
-  -- a record that is changed in place: the live handle that names it, and no other, names the new one
-  pub changed_only : (a b : Shelf T) (h : Handle) (y : T) → live a.pool h ≡ true → h.place < length a.records → b.pool ≡ a.pool → b.records ≡ set a.records h.place y
-      → Only (at a) (at b) h (Some y)
-  changed_only a b h y e lt p r =
-      let c : Shelf T = record { pool = a.pool; records = set a.records h.place y } in
-      let is : b ≡ c = ap (λ (q : Pool). record { pool = q; records = b.records }) p ∙ ap (λ (xs : List T). record { pool = a.pool; records = xs }) r in
-      subst (λ (d : Shelf T). Only (at a) (at d) h (Some y)) (sym is)
-      (record {
-        here = at_live c h e ∙ item_here a.records h.place y lt;
+  -- A record changed in place: the handle that names it, and no other, names the new one.
+
+  named_within : (a : Shelf T) (h : Handle) (x : T) → at a h ≡ Some x → h.place < length a.records
+  named_within a h x e =
+      ⊎_elim
+      (λ (lt : h.place < length a.records). lt)
+      (λ (ge : length a.records ≤ h.place).
+      let l = length-map a.records Some in
+      let past : item a.records h.place ≡ None = get_or_past (map Some a.records) h.place None (omega arith) in
+      let there = at_live a h (at_some a h x (sym e)) in
+      let q : ◌≡◌ {A = ℕ} 0 1 = cc in absurd (omega arith))
+      (cases_lt h.place (length a.records))
+
+  named_is : (a : Shelf T) (h : Handle) (x : T) → at a h ≡ Some x → get_or a.records h.place x ≡ x
+  named_is a h x e =
+      let there = at_live a h (at_some a h x (sym e)) in
+      let read = get_or-map Some a.records h.place x None (named_within a h x e) in
+      let z : Some (get_or a.records h.place x) ≡ Some x = sym read ∙ sym there ∙ e in
+      cc
+
+  pub changed_only : (a : Shelf T) (h : Handle) (x y : T) → at a h ≡ Some x → Only (at a) (at (changed h y a)) h (Some y)
+  changed_only a h x y e =
+      let live = at_some a h x (sym e) in
+      let c = changed h y a in
+      record {
+        here = at_live c h live ∙ item_here a.records h.place y (named_within a h x e);
         others = λ k ne.
             ⊎_elim
             (λ (z : k.place ≡ h.place).
-            let dead = other_version a.pool k h.version (ap (λ (n : ℕ). (slot_at a.pool n).version) z ∙ (live_parts a.pool h e).1) (λ v. ne (same_handle k h z v)) in
+            let dead = other_version a.pool k h.version (ap (λ (n : ℕ). (slot_at a.pool n).version) z ∙ (live_parts a.pool h live).1) (λ v. ne (same_handle k h z v)) in
             both_dead a c k dead dead)
             (λ (o : k.place ≡ h.place → ⊥). same_at a c k refl (item_other a.records h.place k.place y o))
             (cases_eq k.place h.place);
-      })
+      }
 
-  pub live_items : (a : Arena T) (h : Handle) → live (shelf a).pool h ≡ true → h.place < length (shelf a).records
-  live_items a h e = let n = live_within (pool a.places) h e in let l = shelf_long a in omega arith
+  -- what is the same of the old record and of the new one is the same of all
+  pub changed_as : {U : Type 0} (g : T → U) (a : Shelf T) (h : Handle) (x y : T) → at a h ≡ Some x → g y ≡ g x → map g (changed h y a).records ≡ map g a.records
+  changed_as g a h x y e same = map-set_same g a.records h.place y x (same ∙ ap g (sym (named_is a h x e)))
+
+  -- two arenas with the same fields are the same
+  pub same_arena : (a b : Arena T) → a.places ≡ b.places → a.freed ≡ b.freed → a.fresh ≡ b.fresh → a.taken ≡ b.taken → a ≡ b
+  same_arena a b p q r s = λ i. record {
+    places = p i;
+    freed = q i;
+    fresh = r i;
+    taken = s i;
+    few = is_prop→PathP (λ j. vec_len (p j) ≤ 65535) (λ j. le_prop) a.few b.few i;
+    roomy = is_prop→PathP (λ j. vec_len (p j) ≤ vec_capacity (q j)) (λ j. le_prop) a.roomy b.roomy i;
+    sound = is_prop→PathP (λ j. ∥ Sound (pool_of (vec_items (p j)) (vec_items (q j)) (r j) (s j)) ∥₁) (λ j. ∥∥₁_prop) a.sound b.sound i;
+  }
+
+  -- a record changed in place, as what the arena means
+  pub shelf_with : (a : Arena T) (h : Handle) (x : T) → shelf (with_record a h.place x) ≡ changed h x (shelf a)
+  shelf_with a h x =
+      ap (λ (ss : List Slot). record { pool = record { slots = ss; freed = a.freed.items; fresh = a.fresh; taken = a.taken }; records = (shelf (with_record a h.place x)).records }) (slots_kept a.places.items h.place x)
+      ∙ ap (λ (xs : List T). record { pool = (shelf a).pool; records = xs }) (map-set (λ (q : Place T). q.value) a.places.items h.place _)

@@ -1,4 +1,4 @@
 pub mod Pools
-pub mod Placed
 pub mod Shelves
+pub mod Lending
 pub mod Recorded

@@ -1,5 +1,5 @@
 -- The places of one kind of record: which are in use and at which version, and which is taken next.
-use Rattle.std.specs.Prelude.{◌≡◌, ℕ, ◌+◌, ◌-◌, ◌<◌, ◌≤◌, Bool, true, false, cond, ◌&&◌, List, [], ◌∷◌, ◌++◌, length, take, replicate, sum_by, ◌==◌, slice_index, slice_index_or, slice_set}
+use Rattle.std.specs.Prelude.{◌≡◌, ℕ, ◌+◌, ◌-◌, ◌<◌, ◌≤◌, Bool, true, false, cond, ◌&&◌, List, [], ◌∷◌, Some, None, Option, ◌++◌, length, take, replicate, sum_by, ◌==◌, slice_index, slice_index_or, slice_set}
 use Rattle.arena.specs.declared.handle.Handle.{Handle}
 use Rattle.arena.specs.declared.slot.Slot.{Slot}
 use Rattle.arena.specs.declared.slot.State.{State}
@@ -54,6 +54,11 @@ next_place p = cond (length p.freed == 0) p.fresh (slice_index p.freed (length p
 -- the handle that the next taking gives
 abbrev pub next : Pool → Handle
 next p = record { place = next_place p; version = (slot_at p (next_place p)).version }
+
+-- what tells the handle that the next taking gives, or none where no place is left
+abbrev pub Next : Pool → Option Handle → Type 0
+Next p None = room p ≡ 0
+Next p (Some h) = (0 < room p) × (h ≡ next p)
 
 -- the places after one taking
 unfoldable pub take_place : Pool → Pool

@@ -3,12 +3,8 @@
 
 mod arena;
 mod handle;
-mod places;
-mod placing;
-mod recording;
 mod slot;
 
 pub use arena::Arena;
 pub use handle::Handle;
-pub use places::Places;
 pub use slot::{Slot, State};
