@@ -5,7 +5,7 @@ use Rattle.linked_list.specs.Links.{View, In, Apart, first_or, last_or}
 use Rattle.linked_list.specs.Spans.{Spans, without_first, without_last}
 use Rattle.linked_list.specs.Draws.{Draws, Once}
 use Rattle.linked_list.specs.Draws.Draws.{begun, front, back}
-use Rattle.linked_list.proofs.Lists.{some_same, none_some, in_left, in_right, in_parts, apart_left, apart_right, apart_both}
+use Rattle.linked_list.proofs.Lists.{in_left, in_right, in_parts, apart_left, apart_right, apart_both}
 use Rattle.linked_list.proofs.Steps.{front_cut, front_of}
 
 module _ {N : Type 0} where
@@ -29,9 +29,9 @@ module _ {N : Type 0} where
   }
 
   first_came : (ns gs ms : List N) (n : N) → Apart ms → Some n ≡ first_or ms None → Parted ns gs ms → Parted ns (n ∷ gs) (without_first ms)
-  first_came ns gs [] n a e p = absurd (none_some (sym e))
+  first_came ns gs [] n a e p = absurd (cc)
   first_came ns gs (m ∷ ms) n a e p =
-      let mn : n ≡ m = some_same e in
+      let mn : n ≡ m = cc in
       came_more ns gs (m ∷ ms) ms n p (inl mn) (λ i. a.0 (subst (λ (z : N). In z ms) mn i)) (λ k i. inr i)
       (λ k. ⊎_elim (λ f. inl (f ∙ sym mn)) inr)
 
@@ -50,11 +50,11 @@ module _ {N : Type 0} where
 
   none_left : (ns gs ms : List N) → None ≡ first_or ms None → Parted ns gs ms → (m : N) → In m ns → In m gs
   none_left ns gs [] e p m i = ⊎_elim (λ j. j) (λ j. absurd j) (p.all m i)
-  none_left ns gs (k ∷ ks) e p m i = absurd (none_some e)
+  none_left ns gs (k ∷ ks) e p m i = absurd (cc)
 
   none_last : (ms : List N) → None ≡ first_or ms None → last_or ms None ≡ None
   none_last [] e = refl
-  none_last (k ∷ ks) e = absurd (none_some e)
+  none_last (k ∷ ks) e = cc
 
 module _ {N C : Type 0} where
   span_apart : (v : View N C) (c : C) (ns : List N) (s : Span N) → Spans v c ns s → Apart ns

@@ -1,12 +1,11 @@
 -- The lemmas of this crate.
+pub mod Same
 pub mod Lists
 pub mod Relist
-pub mod Inserts
-pub mod Removes
-pub mod Ends
-pub mod Neighbours
-pub mod Marks
+pub mod Relinks
+pub mod Spots
 pub mod Sounds
+pub mod Laws
 pub mod Steps
 pub mod Draws
 pub mod Grows

@@ -1,13 +1,10 @@
 -- Lists, and runs of nodes, cut and joined.
-use Rattle.std.proofs.Common.{◌≡◌, ℕ, true, ◌⊎◌, List, [], ◌∷◌, ◌++◌, Some, None, Option, sym, refl, ap, ◌∙◌, subst, inl, inr, ⊎_elim, arith}
+use Rattle.std.proofs.Common.{◌≡◌, ℕ, ◌+◌, ◌<◌, ◌≤◌, true, ◌⊎◌, List, [], ◌∷◌, ◌++◌, Some, None, Option, sym, refl, ap, ◌∙◌, subst, inl, inr, ⊎_elim, arith}
 use Rattle.linked_list.specs.Links.{View, In, Apart, first_or, last_or, Node, Run}
 
 module _ {N : Type 0} where
   pub some_same : {a b : N} → Some a ≡ Some b → a ≡ b
   some_same e = cc
-
-  pub some_none : {a : N} → Some a ≡ None → ⊥
-  some_none e = let z : ◌≡◌ {A = ℕ} 0 1 = cc in omega arith
 
   pub none_some : {a : N} → None ≡ Some a → ⊥
   none_some e = let z : ◌≡◌ {A = ℕ} 0 1 = cc in omega arith
@@ -21,19 +18,19 @@ module _ {N : Type 0} where
   last_append (x ∷ xs) ys p = last_append xs ys (Some x)
 
   pub last_in : (p : Option N) (n : N) (ns : List N) (m : N) → last_or (n ∷ ns) p ≡ Some m → In m (n ∷ ns)
-  last_in p n [] m e = inl (sym (some_same e))
+  last_in p n [] m e = inl (cc)
   last_in p n (k ∷ ks) m e = inr (last_in (Some n) k ks m e)
 
   pub last_of_in : (ns : List N) (m : N) → last_or ns None ≡ Some m → In m ns
-  last_of_in [] m e = absurd (none_some e)
+  last_of_in [] m e = absurd (cc)
   last_of_in (n ∷ ns) m e = last_in None n ns m e
 
   pub first_of_in : (ns : List N) (m : N) → first_or ns None ≡ Some m → In m ns
-  first_of_in [] m e = absurd (none_some e)
-  first_of_in (n ∷ ns) m e = inl (sym (some_same e))
+  first_of_in [] m e = absurd (cc)
+  first_of_in (n ∷ ns) m e = inl (cc)
 
   pub last_some : (n : N) (ns : List N) (p : Option N) → last_or (n ∷ ns) p ≡ None → ⊥
-  last_some n [] p e = some_none e
+  last_some n [] p e = cc
   last_some n (k ∷ ks) p e = last_some k ks (Some n) e
 
   pub in_left : (m : N) (xs ys : List N) → In m xs → In m (xs ++ ys)
@@ -156,5 +153,5 @@ module _ {N C : Type 0} where
       live = (s n (inl refl)).live ∙ r.0.live;
     },
     keep v w c (Some n) ns q (λ m i. s m (inr i)) (λ m i. f m (inr i))
-        (λ m i. b m (inr i) (λ e. a.0 (subst (λ (z : N). In z ns) (sym (some_same e)) i))) r.1,
+        (λ m i. b m (inr i) (λ e. a.0 (let z : m ≡ n = cc in subst (λ (z : N). In z ns) z i))) r.1,
   )

@@ -2,7 +2,7 @@
 use Rattle.std.specs.Prelude.{◌≡◌, Bool, List, [], ◌∷◌, ◌++◌, Some, None, Option, ◌≢◌}
 use Rattle.linked_list.specs.declared.spot.Spot.{Spot}
 use Rattle.linked_list.specs.declared.spot.Spot.TheVariants.{AtFront, AtBack, Before, After}
-use Rattle.linked_list.specs.Links.{View, At, Holds}
+use Rattle.linked_list.specs.Links.{View, At, Holds, Relisted}
 
 -- what the spot names is there: its container is held, or its mark is live
 abbrev pub spot_live : {N C : Type 0} → View N C → Spot N C → Bool
@@ -47,3 +47,14 @@ pub record Removes {N C : Type 0} (v w : View N C) (n : N) (c : C) : Type 0 wher
   pub moves : At v.within w.within n None
   pub live : w.live ≡ v.live
   pub held : w.held ≡ v.held
+
+-- What an edit means for each list by itself: the list that it changes, given as it is afterwards, and that nothing else changes,
+-- also where an edit is done only if the node m stands in a container.
+pub record EditLaws (N C : Type 0) : Type 0 where
+  pub at_front : (v w : View N C) (n : N) (c : C) (L M : C → List N) → Inserts v w n c (AtFront c) → Holds v L → Relisted L M c (n ∷ L c) → Holds w M
+  pub at_back : (v w : View N C) (n : N) (c : C) (L M : C → List N) → Inserts v w n c (AtBack c) → Holds v L → Relisted L M c (L c ++ n ∷ []) → Holds w M
+  pub before : (v w : View N C) (n m : N) (c : C) (L M : C → List N) (xs ys : List N) → Inserts v w n c (Before m) → Holds v L → L c ≡ xs ++ m ∷ ys → Relisted L M c (xs ++ n ∷ m ∷ ys) → Holds w M
+  pub after : (v w : View N C) (n m : N) (c : C) (L M : C → List N) (xs ys : List N) → Inserts v w n c (After m) → Holds v L → L c ≡ xs ++ m ∷ ys → Relisted L M c (xs ++ m ∷ n ∷ ys) → Holds w M
+  pub removed : (v w : View N C) (n : N) (c : C) (L M : C → List N) (xs ys : List N) → Removes v w n c → Holds v L → L c ≡ xs ++ n ∷ ys → Relisted L M c (xs ++ ys) → Holds w M
+  pub inserted_kept : (v w : View N C) (n m : N) (spot : Spot N C) → (v.within m ≡ None → w ≡ v) → ((c : C) → v.within m ≡ Some c → Inserts v w n c spot) → (w.live ≡ v.live) × (w.held ≡ v.held)
+  pub removed_kept : (v w : View N C) (m : N) → (v.within m ≡ None → w ≡ v) → ((c : C) → v.within m ≡ Some c → Removes v w m c) → (w.live ≡ v.live) × (w.held ≡ v.held) × At v.within w.within m None

@@ -1,4 +1,5 @@
 // Going through a list from both ends. Reads links, and writes nothing: from the front it reads `next` alone.
+// Kept: what a span holds is a clause here and no fact of its type, since it speaks of the store beside the span.
 ghost use Rattle.std.specs.Prelude.{◌≡◌, true, List, Some, None, ◌≢◌};
 ghost use Rattle.linked_list.specs.Links.{Holds, Sound};
 ghost use Rattle.linked_list.specs.Spans.{Spans, Spanned, FromFront, FromBack};
@@ -8,6 +9,7 @@ use crate::linked_list::LinkedList;
 use crate::span::{Span, Step};
 
 // The whole list of the container.
+#[tactic(auto, using(crate::proofs::Steps::whole_spans, crate::proofs::Steps::whole_spanned))]
 pub fn whole<N: LinkedList>(ctx: &N::Store, c: N::ContainerType) -> Span<N>
     requires container { (N.LinkedList.view ctx.now).held c ≡ true }
     requires sound { Sound (N.LinkedList.view ctx.now) }
@@ -21,6 +23,8 @@ pub fn whole<N: LinkedList>(ctx: &N::Store, c: N::ContainerType) -> Span<N>
 }
 
 // Take the first of what is left.
+// Kept: beside `step_back` and, below, `past_front` beside `past_back`, since going forward reads `next` alone, a rule of the project,
+// and one step over both ways would have to be told which link to read.
 pub fn step_front<N: LinkedList>(ctx: &N::Store, span: Span<N>) -> Step<N>
     requires spanned { Spanned (N.LinkedList.view ctx.now) span }
     ensures steps { FromFront (N.LinkedList.view ctx.now) span result }
@@ -67,7 +71,7 @@ fn past_front<N: LinkedList>(ctx: &N::Store, n: N, back: Option<N>) -> Span<N>
     ensures end { back ≡ Some n → (result.front ≡ None) × (result.back ≡ None) }
     ensures on { (back ≢ Some n) → (result.front ≡ (N.LinkedList.view ctx.now).next n) × (result.back ≡ back) }
 {
-    if is_node(back, n) {
+    if back == Some(n) {
         return Span {
             front: None,
             back: None,
@@ -75,7 +79,7 @@ fn past_front<N: LinkedList>(ctx: &N::Store, n: N, back: Option<N>) -> Span<N>
     }
     Span {
         front: N::get_next(ctx, n),
-        back: back,
+        back,
     }
 }
 
@@ -85,25 +89,14 @@ fn past_back<N: LinkedList>(ctx: &N::Store, n: N, front: Option<N>) -> Span<N>
     ensures end { front ≡ Some n → (result.front ≡ None) × (result.back ≡ None) }
     ensures on { (front ≢ Some n) → (result.front ≡ front) × (result.back ≡ (N.LinkedList.view ctx.now).prev n) }
 {
-    if is_node(front, n) {
+    if front == Some(n) {
         return Span {
             front: None,
             back: None,
         };
     }
     Span {
-        front: front,
+        front,
         back: N::get_prev(ctx, n),
-    }
-}
-
-// Whether `o` is the node `n`.
-fn is_node<N: LinkedList>(o: Option<N>, n: N) -> bool
-    ensures yes { result ≡ true → o ≡ Some n }
-    ensures no { o ≡ Some n → result ≡ true }
-{
-    match o {
-        Some(m) => N::same(m, n),
-        None => false,
     }
 }

@@ -3,14 +3,14 @@
 
 mod edits;
 mod gap;
-mod gaps;
 mod iter;
 mod linked_list;
 mod span;
 mod spot;
 
 pub use edits::{
-    insert, insert_after, insert_at_back, insert_at_front, insert_before, is_linked, unlink,
+    edit_laws, insert, insert_after, insert_at_back, insert_at_front, insert_before, is_linked,
+    unlink,
 };
 pub use iter::{each_once, step_back, step_front, whole};
 pub use linked_list::LinkedList;

@@ -1,22 +1,16 @@
 -- Climbing from node to parent: it ends, and edits keep that it ends. Assumes nothing.
-use Rattle.std.proofs.Common.{◌≡◌, ℕ, suc, ◌<◌, ◌⊎◌, Some, None, Option, sym, refl, ap, ◌∙◌, subst, ap₂, ⊎_elim, arith}
+use Rattle.std.proofs.Common.{◌≡◌, ℕ, suc, ◌<◌, ◌⊎◌, Some, None, Option, refl, ap, ◌∙◌, subst, ap₂, ⊎_elim, arith}
 use mathlib.Core.HLevel.{Π_prop, Discrete, hedberg, ⊥_prop}
 use mathlib.Core.Logic.{∥∥₁_elim, ∥∥₁_map}
 use Rattle.trees.specs.Climbs.{Ends, root, child, Within, self, below, Acyclic, ContainsItself}
 
 module _ {N : Type 0} where
-  none_some : {x : N} → ◌≡◌ {A = Option N} None (Some x) → ⊥
-  none_some e = let z : ◌≡◌ {A = ℕ} 0 1 = cc in omega arith
-
-  some_same : {x y : N} → ◌≡◌ {A = Option N} (Some x) (Some y) → x ≡ y
-  some_same e = cc
-
   module _ (same : (a b : N) → (a ≡ b) ⊎ (a ≡ b → ⊥)) where
     option_discrete : Discrete (Option N)
     option_discrete None None = yes refl
-    option_discrete None (Some y) = no (λ e. none_some e)
-    option_discrete (Some x) None = no (λ e. none_some (sym e))
-    option_discrete (Some x) (Some y) = ⊎_elim (λ e. yes (ap (λ (z : N). Some z) e)) (λ ne. no (λ e. ne (some_same e))) (same x y)
+    option_discrete None (Some y) = no (λ e. cc)
+    option_discrete (Some x) None = no (λ e. cc)
+    option_discrete (Some x) (Some y) = ⊎_elim (λ e. yes (ap Some e)) (λ ne. no (λ e. ne (cc))) (same x y)
 
     pub option_set : IsSet (Option N)
     option_set = hedberg option_discrete
@@ -33,18 +27,18 @@ module _ {N : Type 0} where
     around n k e up (below j g v) = up j g (wider n j k e v)
 
     none_inside : (n : N) → Ends p n → (m : N) → p n ≡ Some m → Within p n m → ⊥
-    none_inside n (root e) m f w = none_some (sym e ∙ f)
-    none_inside n (child k e x) m f w = around n k e (none_inside k x) (subst (λ (z : N). Within p n z) (some_same (sym f ∙ e)) w)
+    none_inside n (root e) m f w = cc
+    none_inside n (child k e x) m f w = around n k e (none_inside k x) (subst (λ (z : N). Within p n z) (cc) w)
 
     -- what lies inside n lies, one step up, inside n too
     pub inside_up : (n m k : N) → p m ≡ Some k → (m ≡ n → ⊥) → Within p n m → Within p n k
     inside_up n m k e ne (self s) = absurd (ne s)
-    inside_up n m k e ne (below j f w) = subst (λ (z : N). Within p n z) (some_same (sym f ∙ e)) w
+    inside_up n m k e ne (below j f w) = subst (λ (z : N). Within p n z) (cc) w
 
     -- a node without a parent lies inside itself alone
     pub inside_root : (n m : N) → p m ≡ None → Within p n m → m ≡ n
     inside_root n m e (self s) = s
-    inside_root n m e (below j f w) = absurd (none_some (sym e ∙ f))
+    inside_root n m e (below j f w) = absurd (cc)
 
     module _ (set : IsSet (Option N)) where
       same_child : (n m : N) (e : p n ≡ Some m) (x : Ends p m) → ((z : Ends p m) → x ≡ z)
@@ -55,9 +49,9 @@ module _ {N : Type 0} where
 
       pub ends_prop : (n : N) (x y : Ends p n) → x ≡ y
       ends_prop n (root e) (root f) = ap (λ (u : p n ≡ None). root u) (set _ _ e f)
-      ends_prop n (root e) (child k f y) = absurd (none_some (sym e ∙ f))
-      ends_prop n (child m e x) (root f) = absurd (none_some (sym f ∙ e))
-      ends_prop n (child m e x) (child k f y) = same_child n m e x (ends_prop m x) k (some_same (sym e ∙ f)) f y
+      ends_prop n (root e) (child k f y) = absurd (cc)
+      ends_prop n (child m e x) (root f) = absurd (cc)
+      ends_prop n (child m e x) (child k f y) = same_child n m e x (ends_prop m x) k (cc) f y
 
       pub all_end : Acyclic p → (n : N) → Ends p n
       all_end a = ∥∥₁_elim a (Π_prop ends_prop) (λ e. e)
@@ -73,9 +67,9 @@ module _ {N : Type 0} where
 
     above : (n m : N) → p n ≡ Some m → (x : Ends p n) (y : Ends p m) → height x ≡ suc (height y)
     unfolding height
-    above n m e (root f) y = absurd (none_some (sym f ∙ e))
+    above n m e (root f) y = absurd (cc)
     above n m e (child k f x) y =
-        ap suc (subst (λ (z : N). (x : Ends p z) (y : Ends p m) → height x ≡ height y) (some_same (sym e ∙ f))
+        ap suc (subst (λ (z : N). (x : Ends p z) (y : Ends p m) → height x ≡ height y) (cc)
         (λ x y. ap height (ends_prop p set m x y)) x y)
 
     -- a parent is nearer to its root
@@ -84,24 +78,21 @@ module _ {N : Type 0} where
 
   module _ (same : (a b : N) → (a ≡ b) ⊎ (a ≡ b → ⊥)) (p q : N → Option N) (n : N)
       (other : (m : N) → (m ≡ n → ⊥) → q m ≡ p m) where
-    unlink_ends : q n ≡ None → (m : N) → Ends p m → Ends q m
-    unlink_ends gone m (root e) = ⊎_elim (λ s. root (ap q s ∙ gone)) (λ ne. root (other m ne ∙ e)) (same m n)
-    unlink_ends gone m (child k e x) = ⊎_elim (λ s. root (ap q s ∙ gone)) (λ ne. child k (other m ne ∙ e) (unlink_ends gone k x)) (same m n)
+    -- where n's own climb ends now, so does every climb that ended
+    changed_ends : ((m : N) → m ≡ n → Ends q m) → (m : N) → Ends p m → Ends q m
+    changed_ends here m (root e) = ⊎_elim (here m) (λ ne. root (other m ne ∙ e)) (same m n)
+    changed_ends here m (child k e x) = ⊎_elim (here m) (λ ne. child k (other m ne ∙ e) (changed_ends here k x)) (same m n)
 
     -- a node that is not inside n ends as it did
     apart_ends : (m : N) → (Within p n m → ⊥) → Ends p m → Ends q m
     apart_ends m out (root e) = root (other m (λ s. out (self s)) ∙ e)
     apart_ends m out (child k e x) = child k (other m (λ s. out (self s)) ∙ e) (apart_ends k (λ w. out (below k e w)) x)
 
-    link_ends : (t : N) → q n ≡ Some t → Ends q t → (m : N) → Ends p m → Ends q m
-    link_ends t to et m (root e) = ⊎_elim (λ s. child t (ap q s ∙ to) et) (λ ne. root (other m ne ∙ e)) (same m n)
-    link_ends t to et m (child k e x) = ⊎_elim (λ s. child t (ap q s ∙ to) et) (λ ne. child k (other m ne ∙ e) (link_ends t to et k x)) (same m n)
-
     pub unlink_acyclic : q n ≡ None → Acyclic p → Acyclic q
-    unlink_acyclic gone a = ∥∥₁_map a (λ e m. unlink_ends gone m (e m))
+    unlink_acyclic gone a = ∥∥₁_map a (λ e m. changed_ends (λ k s. root (ap q s ∙ gone)) m (e m))
 
     pub link_acyclic : (t : N) → q n ≡ Some t → (Within p n t → ⊥) → Acyclic p → Acyclic q
-    link_acyclic t to out a = ∥∥₁_map a (λ e m. link_ends t to (apart_ends t out (e t)) m (e m))
+    link_acyclic t to out a = ∥∥₁_map a (λ e m. changed_ends (λ k s. child t (ap q s ∙ to) (apart_ends t out (e t))) m (e m))
 
   pub not_itself : (p : N → Option N) → Acyclic p → (n : N) → ContainsItself p n → ⊥
   not_itself p a n c = ∥∥₁_elim a ⊥_prop (λ e. none_inside p n (e n) c.above c.parent c.inside)

@@ -1,0 +1,34 @@
+use Rattle.linked_list.proofs.Relinks.{relinked}
+use Rattle.linked_list.proofs.Same.{told}
+use Rattle.linked_list.proofs.Sounds.{inserted}
+use Rattle.linked_list.proofs.Spots.{spot_held, before_live, after_live, held_on}
+use Rattle.linked_list.proofs.edits.insert.Goals as goal
+
+pub set_forward-requires : goal.set_forward-requires
+set_forward-requires g c =
+    let v = g.N.LinkedList.view c.args.ctx.now in
+    let a = c.args in
+    let r = c.requires in
+    record { container = spot_held v r.sound a.c a.spot r.spot r.into; node = before_live v r.sound a.c a.spot r.spot r.into _ c.at-gap.ensures.before }
+
+pub set_backward-requires : goal.set_backward-requires
+set_backward-requires g c =
+    let v = g.N.LinkedList.view c.args.ctx.now in
+    let a = c.args in
+    let r = c.requires in
+    let f = c.set_forward.ensures.sets in
+    record {
+      container = held_on v r.sound a.c a.spot r.spot r.into _ _ _ f;
+      node = after_live v r.sound a.c a.spot r.spot r.into _ _ _ f _ c.at-gap.ensures.after;
+    }
+
+pub returns : goal.returns
+returns g c =
+    let v = g.N.LinkedList.view c.args.ctx.now in
+    let a = c.args in
+    let r = c.requires in
+    let m = g.met.N.LinkedList in
+    let rel = relinked v _ _ _ _ _ a.c a.n _ _ _ _ _ _ _
+    c.set_forward.ensures.sets c.set_backward.ensures.sets c.set_prev.ensures.sets c.set_next.ensures.sets c.set_container.ensures.sets in
+    let done = inserted m.containers v _ a.n a.c (told m.eq_decides) _ _ r.sound r.node a.spot r.spot r.into r.loose c.at-gap.ensures.before c.at-gap.ensures.after rel in
+    record { inserts = done.0; sound = done.1; rest = cc }
