@@ -1,17 +1,20 @@
 -- The regions of an operation, made one after the other. Assumes nothing.
-use Rattle.std.proofs.Common.{◌≡◌, ℕ, zero, suc, ◌+◌, ◌-◌, ◌<◌, ◌≤◌, true, List, [], ◌∷◌, ◌++◌, length, set, replicate, Option, sym, refl, ap, ◌∙◌, append_assoc, add-one, arith}
-use Rattle.std.proofs.lemmas.List.{length_push, set-append_right}
+use Rattle.std.proofs.Common.{◌≡◌, ℕ, zero, suc, ◌+◌, ◌-◌, ◌<◌, ◌≤◌, true, List, [], ◌∷◌, ◌++◌, length, take, set, replicate, Option, sym, refl, ap, ◌∙◌, append_assoc, add-one, arith}
+use Rattle.std.proofs.lemmas.List.{length-take-le, length_push, set_at, take_more_set}
+use Rattle.arena.specs.declared.arena.Arena.{Arena}
 use Rattle.arena.specs.declared.handle.Handle.{Handle}
 use Rattle.arena.specs.Pools.{live, next, room, Sound}
+use Rattle.arena.specs.Recorded.{shelf}
 use Rattle.arena.specs.Shelves.{Shelf, entered}
 use Rattle.arena.proofs.Pooling.{room_take, take_sound}
-use Rattle.arena.proofs.Shelving.{enter_keeps, enter_live}
+use Rattle.arena.proofs.Shelving.{enter_keeps, enter_live, sound_shelf}
 use Rattle.records.specs.declared.handles.BlockPtr.{BlockPtr}
 use Rattle.records.specs.declared.handles.OpPtr.{OpPtr}
 use Rattle.records.specs.declared.handles.RegionPtr.{RegionPtr}
 use Rattle.records.specs.declared.region.Region.{Region}
-use Rattle.records.specs.Makings.{Keeps, new_region, no_region, region_ptrs, with_regions}
+use Rattle.records.specs.Makings.{Keeps, new_region, region_ptrs, with_regions}
 use Rattle.records.specs.Models.{region_of}
+use Rattle.records.specs.Padding.{no_region, padded}
 
 -- one making keeps all, and leaves one place fewer
 pub record Grown {T : Type 0} (n : ℕ) (a b : Shelf T) : Type 0 where
@@ -36,9 +39,18 @@ module _ {T : Type 0} where
         keeps = record { keeps = λ k e. enter_keeps b x g.sound some k (g.still k e) ∙ g.keeps.keeps k e };
       }
 
-put_first : (m : ℕ) (y : RegionPtr) → 0 < m → set (replicate m no_region) 0 y ≡ y ∷ replicate (m - 1) no_region
-put_first zero y h = absurd (omega arith)
-put_first (suc m) y h = let z : m ≡ suc m - 1 = omega arith in ap (λ (k : ℕ). y ∷ replicate k no_region) z
+-- one more region stands in the four places
+pub padded_push : (n : ℕ) (ps : List RegionPtr) (y : RegionPtr) → n < 4 → length ps ≡ 4 → padded (take n ps) ≡ ps → padded (take (n + 1) (set ps n y)) ≡ set ps n y
+padded_push n ps y lt long e =
+    let front : length (take n ps) ≡ n = length-take-le n ps (omega arith) in
+    let back : 4 - length (take n ps ++ y ∷ []) ≡ 4 - (n + 1) = (let l = length_push (take n ps) y in omega arith) in
+    let one : suc (4 - (n + 1)) ≡ 4 - length (take n ps) = omega arith in
+    ap padded (take_more_set ps n y (omega arith))
+    ∙ append_assoc (take n ps) (y ∷ []) (replicate (4 - length (take n ps ++ y ∷ [])) no_region)
+    ∙ ap (λ (k : ℕ). take n ps ++ y ∷ replicate k no_region) back
+    ∙ sym (set_at (take n ps) no_region (replicate (4 - (n + 1)) no_region) y n front)
+    ∙ ap (λ (k : ℕ). set (take n ps ++ replicate k no_region) n y) one
+    ∙ ap (λ (zs : List RegionPtr). set zs n y) e
 
 module _ (op : OpPtr) (body : Option BlockPtr) (a : Shelf Region) where
   pub regions_grown : (n : ℕ) → Sound a.pool → n ≤ room a.pool → Grown n a (with_regions op body n a)
@@ -54,7 +66,7 @@ module _ (op : OpPtr) (body : Option BlockPtr) (a : Shelf Region) where
   unfolding with_regions
   regions_none = refl
 
-  pub ptrs_none : replicate 4 no_region ≡ region_ptrs op body 0 a ++ replicate 4 no_region
+  pub ptrs_none : [] ≡ region_ptrs op body 0 a
   unfolding region_ptrs
   ptrs_none = refl
 
@@ -63,22 +75,14 @@ module _ (op : OpPtr) (body : Option BlockPtr) (a : Shelf Region) where
   ptrs_long zero = refl
   ptrs_long (suc n) = let r = ptrs_long n in let l = length_push (region_ptrs op body n a) (region_of (next (with_regions op body n a).pool)) in omega arith
 
-  ptrs_more : (n : ℕ) → region_ptrs op body (n + 1) a ≡ region_ptrs op body n a ++ region_of (next (with_regions op body n a).pool) ∷ []
+  pub ptrs_step : (n : ℕ) (xs : List RegionPtr) (y : RegionPtr) → xs ≡ region_ptrs op body n a → y ≡ region_of (next (with_regions op body n a).pool)
+      → xs ++ y ∷ [] ≡ region_ptrs op body (n + 1) a
   unfolding region_ptrs
-  ptrs_more n = ap (λ (m : ℕ). region_ptrs op body m a) (add-one n)
+  ptrs_step n xs y e f =
+      ap (λ (us : List RegionPtr). us ++ y ∷ []) e
+      ∙ ap (λ (v : RegionPtr). region_ptrs op body n a ++ v ∷ []) f
+      ∙ ap (λ (m : ℕ). region_ptrs op body m a) (sym (add-one n))
 
-  -- one more handle stands in the four places
-  pub ptrs_step : (n : ℕ) (xs : List RegionPtr) (y : RegionPtr) → n < 4 → xs ≡ region_ptrs op body n a ++ replicate (4 - n) no_region → y ≡ region_of (next (with_regions op body n a).pool)
-      → set xs n y ≡ region_ptrs op body (n + 1) a ++ replicate (4 - (n + 1)) no_region
-  ptrs_step n xs y h e f =
-      let l = ptrs_long n in
-      let z : n - n ≡ 0 = omega arith in
-      let q : 4 - n - 1 ≡ 4 - (n + 1) = omega arith in
-      ap (λ (us : List RegionPtr). set us n y) e
-      ∙ set-append_right (region_ptrs op body n a) (replicate (4 - n) no_region) n n y l (omega arith)
-      ∙ ap (λ (m : ℕ). region_ptrs op body n a ++ set (replicate (4 - n) no_region) m y) z
-      ∙ ap (λ (us : List RegionPtr). region_ptrs op body n a ++ us) (put_first (4 - n) y (omega arith))
-      ∙ ap (λ (m : ℕ). region_ptrs op body n a ++ y ∷ replicate m no_region) q
-      ∙ sym (append_assoc (region_ptrs op body n a) (y ∷ []) (replicate (4 - (n + 1)) no_region))
-      ∙ ap (λ (v : RegionPtr). (region_ptrs op body n a ++ v ∷ []) ++ replicate (4 - (n + 1)) no_region) f
-      ∙ ap (λ (us : List RegionPtr). us ++ replicate (4 - (n + 1)) no_region) (sym (ptrs_more n))
+-- each making takes one of the places that were left
+pub room_after : (op : OpPtr) (body : Option BlockPtr) (n : ℕ) (a : Arena Region) → n ≤ room (shelf a).pool → room (with_regions op body n (shelf a)).pool + n ≡ room (shelf a).pool
+room_after op body n a h = (regions_grown op body (shelf a) n (sound_shelf a) h).rooms

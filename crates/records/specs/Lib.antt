@@ -1,4 +1,5 @@
 pub mod Shapes
+pub mod Padding
 pub mod Models
 pub mod Views
 pub mod Nodes

@@ -1,5 +1,5 @@
 -- What makings put into the store.
-use Rattle.std.specs.Prelude.{◌≡◌, ℕ, zero, suc, ◌-◌, ◌≤◌, Bool, true, false, List, [], ◌∷◌, ◌++◌, replicate, Some, None, Option}
+use Rattle.std.specs.Prelude.{◌≡◌, ℕ, zero, suc, ◌≤◌, Bool, true, false, List, [], ◌∷◌, ◌++◌, Some, None, Option}
 use Rattle.arena.specs.declared.handle.Handle.{Handle}
 use Rattle.arena.specs.Pools.{live, next, room}
 use Rattle.arena.specs.Shelves.{Shelf, at, entered}
@@ -12,10 +12,6 @@ use Rattle.records.specs.declared.making.MadeOperation.{MadeOperation}
 use Rattle.records.specs.declared.operation.Operation.{Operation}
 use Rattle.records.specs.declared.region.Region.{Region}
 use Rattle.records.specs.Models.{Model, region_of, next_op, next_block, next_region}
-
--- a handle that is never live, where an operation has no region
-abbrev pub no_region : RegionPtr
-no_region = record { handle = record { place = 0; version = 0 } }
 
 -- the index-th region of an operation, with its one block if it has one
 abbrev pub new_region : OpPtr → Option BlockPtr → ℕ → Region
@@ -41,23 +37,23 @@ body_of true m = Some (next_block m)
 body_of false m = None
 
 -- a new operation stands in no block, and its note is 0
-abbrev pub new_operation : Kind → Option ℕ → ℕ → List RegionPtr → Operation
-new_operation kind name count regions =
-    record { kind = kind; name = name; count = count; regions = regions; note = 0; next = None; prev = None; container = None }
+abbrev pub new_operation : Kind → Option ℕ → List RegionPtr → Operation
+new_operation kind name regions =
+    record { kind = kind; name = name; regions = regions; note = 0; next = None; prev = None; container = None }
 
 -- the blocks' table after a making: a table's body stands in the operation's region
 abbrev pub with_body : Bool → Model → Shelf BasicBlock
 with_body true m = entered (new_block (Some (next_region m))) m.blocks
 with_body false m = m.blocks
 
--- the four places for regions: those made, and none in the rest
+-- the regions made for an operation, in order
 abbrev pub regions_made : Kind → ℕ → Model → List RegionPtr
-regions_made kind count m = region_ptrs (next_op m) (body_of kind.table m) count m.regions ++ replicate (4 - count) no_region
+regions_made kind count m = region_ptrs (next_op m) (body_of kind.table m) count m.regions
 
 -- the store after an operation was made, with its regions and, for a table, its body
 abbrev pub with_operation : Kind → Option ℕ → ℕ → Model → Model
 with_operation kind name count m = record {
-  operations = entered (new_operation kind name count (regions_made kind count m)) m.operations;
+  operations = entered (new_operation kind name (regions_made kind count m)) m.operations;
   blocks = with_body kind.table m;
   regions = with_regions (next_op m) (body_of kind.table m) count m.regions;
 }
@@ -65,7 +61,7 @@ with_operation kind name count m = record {
 -- what that making answers: all nodes made
 abbrev pub operation_made : Kind → ℕ → Model → MadeOperation
 operation_made kind count m =
-    record { operation = next_op m; count = count; regions = regions_made kind count m; body = body_of kind.table m }
+    record { operation = next_op m; regions = regions_made kind count m; body = body_of kind.table m }
 
 -- the store after a block was made; it stands in no region
 abbrev pub with_block : Model → Model

@@ -1,5 +1,5 @@
 -- Nodes of all kinds: in which each stands, and which are tables, symbols and bodies of tables.
-use Rattle.std.specs.Prelude.{◌≡◌, ℕ, Bool, false, ◌&&◌, List, take, Some, None, Option}
+use Rattle.std.specs.Prelude.{◌≡◌, ℕ, Bool, false, ◌&&◌, List, Some, None, Option}
 use Rattle.std.specs.Option.{option_map}
 use Rattle.arena.specs.Shelves.{item}
 use Rattle.linked_list.specs.declared.spot.Spot.{Spot}
@@ -63,7 +63,7 @@ block_target (After mark) = node.BasicBlock mark
 
 -- the regions of an operation, in order
 abbrev pub regions_of : Operation → List RegionPtr
-regions_of o = take o.count o.regions
+regions_of o = o.regions
 
 -- the region r knows that it is the i-th region of an operation
 pub record Belongs (m : Model) (op : OpPtr) (i : ℕ) (r : RegionPtr) : Type 0 where

@@ -10,7 +10,6 @@ abbrev pub noted : ℕ → Operation → Operation
 noted note o = record {
   kind = o.kind;
   name = o.name;
-  count = o.count;
   regions = o.regions;
   note = note;
   next = o.next;

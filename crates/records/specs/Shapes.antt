@@ -1,6 +1,7 @@
 -- Which kinds, numbers of regions and names go together.
-use Rattle.std.specs.Prelude.{◌≡◌, ℕ, ◌+◌, ◌<◌, Bool, true, false, ◌⊎◌, Some, None, Option, ◌≢◌}
+use Rattle.std.specs.Prelude.{◌≡◌, ℕ, ◌+◌, ◌<◌, Bool, true, false, ◌⊎◌, Some, None, Option, Result, MatchResult, ◌≢◌}
 use Rattle.records.specs.declared.kind.Kind.{Kind}
+use Rattle.records.specs.declared.kind.UnknownKind.{UnknownKind}
 use Rattle.records.specs.declared.shape.Shape.{Shape}
 
 -- a number for a property that is there
@@ -11,6 +12,10 @@ worth n false = 0
 -- a kind as a sum: 1 for a table, 2 for a symbol, 4 for a terminator
 abbrev pub kind_sum : Kind → ℕ
 kind_sum k = worth 1 k.table + worth 2 k.symbol + worth 4 k.terminator
+
+-- the kind with this sum, or a refusal of a sum above 7, which no kind has
+abbrev pub Summed : ℕ → Result Kind UnknownKind → Type 0
+Summed sum r = MatchResult r (λ k. kind_sum k ≡ sum) (λ e. (7 < sum) × (e.0 ≡ sum))
 
 -- a table that does not have exactly one region
 abbrev pub BadTable : Kind → ℕ → Type 0

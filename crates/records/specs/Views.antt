@@ -49,7 +49,7 @@ block_view r = block_links (tables r)
 
 -- a record without its links as a node
 abbrev pub loose_op : Operation → Operation
-loose_op o = record { kind = o.kind; name = o.name; count = o.count; regions = o.regions; note = o.note; next = None; prev = None; container = None }
+loose_op o = record { kind = o.kind; name = o.name; regions = o.regions; note = o.note; next = None; prev = None; container = None }
 
 abbrev pub loose_block : BasicBlock → BasicBlock
 loose_block b = record { head = b.head; tail = b.tail; next = None; prev = None; container = None }

@@ -1,17 +1,15 @@
 -- One record of a table is written: what its readers see. Assumes nothing.
-use Rattle.std.specs.Prelude.{◌≡◌, true, ◌⊎◌, map, set, Some, vec_items, Option, ◌≢◌, slice_index_or, slice_set, refl}
+use Rattle.std.specs.Prelude.{◌≡◌, ◌&&◌, ◌==◌, ◌⊎◌, Decides, Some, Option, ◌≢◌, refl}
 use Rattle.std.proofs.Common.{sym, ap, ◌∙◌, inl, inr, ⊎_elim}
-use Rattle.std.proofs.lemmas.List.{get_or-map, map-set, set-get_or}
 use Rattle.std.proofs.lemmas.Bool.{cases_eq}
-use Rattle.arena.specs.declared.arena.Arena.{Arena}
+use Rattle.std.proofs.lemmas.Bool.Decides.{Decides-and, Decides-eqb, Decides-like}
 use Rattle.arena.specs.declared.handle.Handle.{Handle}
-use Rattle.arena.specs.Pools.{live}
-use Rattle.arena.specs.Recorded.{shelf}
-use Rattle.arena.specs.Shelves.{Only, Shelf, at}
-use Rattle.arena.proofs.Shelving.{changed_only, live_items, read_at, same_handle}
+use Rattle.arena.specs.Shelves.{Only, Shelf, at, changed}
+use Rattle.arena.proofs.Shelving.{changed_only, same_handle}
 use Rattle.records.specs.declared.handles.BlockPtr.{BlockPtr}
 use Rattle.records.specs.declared.handles.OpPtr.{OpPtr}
 use Rattle.records.specs.declared.handles.RegionPtr.{RegionPtr}
+use Rattle.records.specs.Models.{block_of, op_of, region_of}
 use Rattle.records.specs.Views.{part}
 
 -- two handles are the same or not
@@ -26,56 +24,58 @@ handles h k =
     (λ (p : h.place ≡ k.place → ⊥). inr (λ e. p (ap (λ (j : Handle). j.place) e)))
     (cases_eq h.place k.place)
 
+-- comparing handles decides whether they are the same
+pub handle_decides : (h k : Handle) → Decides ((h.place == k.place) && (h.version == k.version)) (h ≡ k)
+handle_decides h k =
+    Decides-like _ (λ e. same_handle h k e.0 e.1) (λ e. (ap (λ (j : Handle). j.place) e, ap (λ (j : Handle). j.version) e))
+    (Decides-and _ _ (Decides-eqb h.place k.place) (Decides-eqb h.version k.version))
+
 -- a handle of one kind is its place and version
 pub same_opptr : (m n : OpPtr) → m.handle ≡ n.handle → m ≡ n
-same_opptr m n e = ap (λ (h : Handle). record { handle = h }) e
+same_opptr m n e = ap op_of e
 
 pub same_blockptr : (m n : BlockPtr) → m.handle ≡ n.handle → m ≡ n
-same_blockptr m n e = ap (λ (h : Handle). record { handle = h }) e
+same_blockptr m n e = ap block_of e
 
 pub same_regionptr : (m n : RegionPtr) → m.handle ≡ n.handle → m ≡ n
-same_regionptr m n e = ap (λ (h : Handle). record { handle = h }) e
+same_regionptr m n e = ap region_of e
+
+-- comparing handles of one kind decides whether they are the same
+pub op_decides : (m n : OpPtr) → Decides ((m.handle.place == n.handle.place) && (m.handle.version == n.handle.version)) (m ≡ n)
+op_decides m n = Decides-like _ (same_opptr m n) (ap (λ (p : OpPtr). p.handle)) (handle_decides m.handle n.handle)
+
+pub block_decides : (m n : BlockPtr) → Decides ((m.handle.place == n.handle.place) && (m.handle.version == n.handle.version)) (m ≡ n)
+block_decides m n = Decides-like _ (same_blockptr m n) (ap (λ (p : BlockPtr). p.handle)) (handle_decides m.handle n.handle)
 
 -- two handles of one kind are the same or not
+ptr_same : {P : Type 0} (handle : P → Handle) (of : Handle → P) → ((p : P) → of (handle p) ≡ p) → (m n : P) → (m ≡ n) ⊎ (m ≢ n)
+ptr_same handle of back m n =
+    elim (handles (handle m) (handle n)) [ inl e ↦ inl (sym (back m) ∙ ap of e ∙ back n) | inr ne ↦ inr (λ e. ne (ap handle e)) ]
+
 pub op_same : (m n : OpPtr) → (m ≡ n) ⊎ (m ≢ n)
-op_same m n = elim (handles m.handle n.handle) [ inl e ↦ inl (same_opptr m n e) | inr ne ↦ inr (λ e. ne (ap (λ (p : OpPtr). p.handle) e)) ]
+op_same = ptr_same (λ p. p.handle) op_of (λ p. refl)
 
 pub block_same : (m n : BlockPtr) → (m ≡ n) ⊎ (m ≢ n)
-block_same m n = elim (handles m.handle n.handle) [ inl e ↦ inl (same_blockptr m n e) | inr ne ↦ inr (λ e. ne (ap (λ (p : BlockPtr). p.handle) e)) ]
+block_same = ptr_same (λ p. p.handle) block_of (λ p. refl)
 
 pub region_same : (m n : RegionPtr) → (m ≡ n) ⊎ (m ≢ n)
-region_same m n = elim (handles m.handle n.handle) [ inl e ↦ inl (same_regionptr m n e) | inr ne ↦ inr (λ e. ne (ap (λ (p : RegionPtr). p.handle) e)) ]
+region_same = ptr_same (λ p. p.handle) region_of (λ p. refl)
 
-module _ {T : Type 0} (a : Arena T) (h : Handle) (x y : T) (alive : live (shelf a).pool h ≡ true) (read : x ≡ slice_index_or (vec_items a.records) h.place x) where
-  -- the table after the write
-  abbrev pub after : Shelf T
-  after = record { pool = (shelf a).pool; records = slice_set (vec_items a.records) h.place y }
-
-  was : at (shelf a) h ≡ Some x
-  was = sym (read_at a h x alive read)
-
-  only : Only (at (shelf a)) (at after) h (Some y)
-  only = changed_only (shelf a) after h y alive (live_items a h alive) refl refl
+module _ {T : Type 0} (a : Shelf T) (h : Handle) (x y : T) (read : at a h ≡ Some x) where
+  only : Only (at a) (at (changed h y a)) h (Some y)
+  only = changed_only a h x y read
 
   -- a part that the write set, read at the handle and at any other
-  pub set_here : {B : Type 0} (f : T → Option B) → part f (at after h) ≡ f y
+  pub set_here : {B : Type 0} (f : T → Option B) → part f (at (changed h y a) h) ≡ f y
   set_here f = ap (part f) only.here
 
-  pub set_other : {B : Type 0} (f : T → Option B) (k : Handle) → (k ≢ h) → part f (at after k) ≡ part f (at (shelf a) k)
+  pub set_other : {B : Type 0} (f : T → Option B) (k : Handle) → (k ≢ h) → part f (at (changed h y a) k) ≡ part f (at a k)
   set_other f k ne = ap (part f) (only.others k ne)
 
   -- a part that the write left
-  pub left : {B : Type 0} (f : T → Option B) → f y ≡ f x → (k : Handle) → part f (at after k) ≡ part f (at (shelf a) k)
+  pub left : {B : Type 0} (f : T → Option B) → f y ≡ f x → (k : Handle) → part f (at (changed h y a) k) ≡ part f (at a k)
   left f e k =
       elim (handles k h) [
-        | inl z ↦ ap (λ (j : Handle). part f (at after j)) z ∙ set_here f ∙ e ∙ sym (ap (part f) was) ∙ ap (λ (j : Handle). part f (at (shelf a) j)) (sym z)
+        | inl z ↦ ap (λ (j : Handle). part f (at (changed h y a) j)) z ∙ set_here f ∙ e ∙ sym (ap (part f) read) ∙ ap (λ (j : Handle). part f (at a j)) (sym z)
         | inr ne ↦ set_other f k ne
       ]
-
-  -- what all records are without the part that was set
-  pub without : {U : Type 0} (g : T → U) → g y ≡ g x → map g (slice_set (vec_items a.records) h.place y) ≡ map g (vec_items a.records)
-  without g e =
-      let lt = live_items a h alive in
-      map-set g (vec_items a.records) h.place y
-      ∙ ap (set (map g (vec_items a.records)) h.place) (e ∙ ap g read ∙ sym (get_or-map g (vec_items a.records) h.place x (g x) lt))
-      ∙ set-get_or (map g (vec_items a.records)) h.place (g x)

@@ -1,9 +1,8 @@
 // The records of operations, blocks and regions: how they are made, read and linked. Knows names by their numbers alone.
-// The tables are private to it: outside, a record of a store is changed by the calls that stand here alone.
+// Its tables are lent for reading alone: outside, a record of a store is changed by the calls that stand here alone.
 #![tactic(auto)]
 
 mod basic_block;
-mod editing;
 mod handles;
 mod ir_node;
 mod kind;
@@ -11,19 +10,22 @@ mod linking;
 mod making;
 mod noting;
 mod operation;
+mod ptr;
 mod reading;
 mod records;
 mod region;
+mod region_list;
 mod shape;
 mod shaping;
-mod spanning;
 
 pub use basic_block::BasicBlock;
 pub use handles::{BlockPtr, OpPtr, RegionPtr};
 pub use ir_node::IRNode;
-pub use kind::Kind;
+pub use kind::{Kind, UnknownKind};
 pub use making::MadeOperation;
 pub use operation::Operation;
+pub use ptr::Ptr;
 pub use records::Records;
 pub use region::Region;
+pub use region_list::RegionList;
 pub use shape::Shape;

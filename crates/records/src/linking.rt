@@ -1,9 +1,12 @@
 // The links of operations in blocks and of blocks in regions. The setters serve the list code alone.
+// Kept: each link has a getter and a setter for each kind of node, a rule of the project: a setter changes one link, and the kinds
+// never meet. That setters have no clauses but their trait's was tried: the check can't hand those to a method that takes an
+// associated type by `&mut`.
 ghost use Rattle.std.specs.Prelude.{◌≡◌, true};
 ghost use Rattle.linked_list.specs.Links.{SetsHead, SetsNext, SetsPrev, SetsTail, SetsWithin};
 ghost use Rattle.records.specs.Models.{Model};
 ghost use Rattle.records.specs.Views.{block_rest, block_view, op_rest, op_view};
-ghost use Rattle.records.specs.Writes.{op_same, block_same, region_same};
+ghost use Rattle.records.specs.Writes.{block_decides, block_same, op_decides, region_same};
 
 use crate::handles::{BlockPtr, OpPtr, RegionPtr};
 use crate::records::Records;
@@ -20,16 +23,12 @@ impl LinkedList for OpPtr {
 
     ghost rest = { op_rest };
 
-    ghost nodes = { λ a b. op_same a b };
+    ghost eq_decides = { op_decides };
 
     ghost containers = { λ a b. block_same a b };
 
-    fn same(a: OpPtr, b: OpPtr) -> bool {
-        a == b
-    }
-
     fn get_next(ctx: &Records, n: OpPtr) -> Option<OpPtr> {
-        ctx.operations.records[n.handle.place].next
+        ctx.operations.record(n.handle).next
     }
 
     fn set_next(ctx: &mut Records, n: OpPtr, x: Option<OpPtr>)
@@ -37,11 +36,11 @@ impl LinkedList for OpPtr {
         ensures sets { SetsNext (op_view ctx.old) (op_view ctx.new) n x }
         ensures rest { op_rest ctx.new ≡ op_rest ctx.old }
     {
-        ctx.operations.records[n.handle.place].next = x;
+        ctx.operations.record_mut(n.handle).next = x;
     }
 
     fn get_prev(ctx: &Records, n: OpPtr) -> Option<OpPtr> {
-        ctx.operations.records[n.handle.place].prev
+        ctx.operations.record(n.handle).prev
     }
 
     fn set_prev(ctx: &mut Records, n: OpPtr, x: Option<OpPtr>)
@@ -49,11 +48,11 @@ impl LinkedList for OpPtr {
         ensures sets { SetsPrev (op_view ctx.old) (op_view ctx.new) n x }
         ensures rest { op_rest ctx.new ≡ op_rest ctx.old }
     {
-        ctx.operations.records[n.handle.place].prev = x;
+        ctx.operations.record_mut(n.handle).prev = x;
     }
 
     fn get_container(ctx: &Records, n: OpPtr) -> Option<BlockPtr> {
-        ctx.operations.records[n.handle.place].container
+        ctx.operations.record(n.handle).container
     }
 
     fn set_container(ctx: &mut Records, n: OpPtr, x: Option<BlockPtr>)
@@ -61,11 +60,11 @@ impl LinkedList for OpPtr {
         ensures sets { SetsWithin (op_view ctx.old) (op_view ctx.new) n x }
         ensures rest { op_rest ctx.new ≡ op_rest ctx.old }
     {
-        ctx.operations.records[n.handle.place].container = x;
+        ctx.operations.record_mut(n.handle).container = x;
     }
 
     fn get_head(ctx: &Records, c: BlockPtr) -> Option<OpPtr> {
-        ctx.blocks.records[c.handle.place].head
+        ctx.blocks.record(c.handle).head
     }
 
     fn set_head(ctx: &mut Records, c: BlockPtr, x: Option<OpPtr>)
@@ -73,11 +72,11 @@ impl LinkedList for OpPtr {
         ensures sets { SetsHead (op_view ctx.old) (op_view ctx.new) c x }
         ensures rest { op_rest ctx.new ≡ op_rest ctx.old }
     {
-        ctx.blocks.records[c.handle.place].head = x;
+        ctx.blocks.record_mut(c.handle).head = x;
     }
 
     fn get_tail(ctx: &Records, c: BlockPtr) -> Option<OpPtr> {
-        ctx.blocks.records[c.handle.place].tail
+        ctx.blocks.record(c.handle).tail
     }
 
     fn set_tail(ctx: &mut Records, c: BlockPtr, x: Option<OpPtr>)
@@ -85,7 +84,7 @@ impl LinkedList for OpPtr {
         ensures sets { SetsTail (op_view ctx.old) (op_view ctx.new) c x }
         ensures rest { op_rest ctx.new ≡ op_rest ctx.old }
     {
-        ctx.blocks.records[c.handle.place].tail = x;
+        ctx.blocks.record_mut(c.handle).tail = x;
     }
 }
 
@@ -100,16 +99,12 @@ impl LinkedList for BlockPtr {
 
     ghost rest = { block_rest };
 
-    ghost nodes = { λ a b. block_same a b };
+    ghost eq_decides = { block_decides };
 
     ghost containers = { λ a b. region_same a b };
 
-    fn same(a: BlockPtr, b: BlockPtr) -> bool {
-        a == b
-    }
-
     fn get_next(ctx: &Records, n: BlockPtr) -> Option<BlockPtr> {
-        ctx.blocks.records[n.handle.place].next
+        ctx.blocks.record(n.handle).next
     }
 
     fn set_next(ctx: &mut Records, n: BlockPtr, x: Option<BlockPtr>)
@@ -117,11 +112,11 @@ impl LinkedList for BlockPtr {
         ensures sets { SetsNext (block_view ctx.old) (block_view ctx.new) n x }
         ensures rest { block_rest ctx.new ≡ block_rest ctx.old }
     {
-        ctx.blocks.records[n.handle.place].next = x;
+        ctx.blocks.record_mut(n.handle).next = x;
     }
 
     fn get_prev(ctx: &Records, n: BlockPtr) -> Option<BlockPtr> {
-        ctx.blocks.records[n.handle.place].prev
+        ctx.blocks.record(n.handle).prev
     }
 
     fn set_prev(ctx: &mut Records, n: BlockPtr, x: Option<BlockPtr>)
@@ -129,11 +124,11 @@ impl LinkedList for BlockPtr {
         ensures sets { SetsPrev (block_view ctx.old) (block_view ctx.new) n x }
         ensures rest { block_rest ctx.new ≡ block_rest ctx.old }
     {
-        ctx.blocks.records[n.handle.place].prev = x;
+        ctx.blocks.record_mut(n.handle).prev = x;
     }
 
     fn get_container(ctx: &Records, n: BlockPtr) -> Option<RegionPtr> {
-        ctx.blocks.records[n.handle.place].container
+        ctx.blocks.record(n.handle).container
     }
 
     fn set_container(ctx: &mut Records, n: BlockPtr, x: Option<RegionPtr>)
@@ -141,11 +136,11 @@ impl LinkedList for BlockPtr {
         ensures sets { SetsWithin (block_view ctx.old) (block_view ctx.new) n x }
         ensures rest { block_rest ctx.new ≡ block_rest ctx.old }
     {
-        ctx.blocks.records[n.handle.place].container = x;
+        ctx.blocks.record_mut(n.handle).container = x;
     }
 
     fn get_head(ctx: &Records, c: RegionPtr) -> Option<BlockPtr> {
-        ctx.regions.records[c.handle.place].head
+        ctx.regions.record(c.handle).head
     }
 
     fn set_head(ctx: &mut Records, c: RegionPtr, x: Option<BlockPtr>)
@@ -153,11 +148,11 @@ impl LinkedList for BlockPtr {
         ensures sets { SetsHead (block_view ctx.old) (block_view ctx.new) c x }
         ensures rest { block_rest ctx.new ≡ block_rest ctx.old }
     {
-        ctx.regions.records[c.handle.place].head = x;
+        ctx.regions.record_mut(c.handle).head = x;
     }
 
     fn get_tail(ctx: &Records, c: RegionPtr) -> Option<BlockPtr> {
-        ctx.regions.records[c.handle.place].tail
+        ctx.regions.record(c.handle).tail
     }
 
     fn set_tail(ctx: &mut Records, c: RegionPtr, x: Option<BlockPtr>)
@@ -165,6 +160,6 @@ impl LinkedList for BlockPtr {
         ensures sets { SetsTail (block_view ctx.old) (block_view ctx.new) c x }
         ensures rest { block_rest ctx.new ≡ block_rest ctx.old }
     {
-        ctx.regions.records[c.handle.place].tail = x;
+        ctx.regions.record_mut(c.handle).tail = x;
     }
 }

@@ -1,5 +1,6 @@
 // The three tables of records. No other invariant than their sizes: an edit of links passes through states that break one.
-ghost use Rattle.std.specs.Prelude.{◌≡◌, vec_len};
+ghost use Rattle.std.specs.Prelude.{◌≡◌};
+ghost use Rattle.arena.specs.Recorded.{capacity};
 
 use crate::basic_block::BasicBlock;
 use crate::operation::Operation;
@@ -12,7 +13,7 @@ pub struct Records {
     pub(crate) operations: Arena<Operation>,
     pub(crate) blocks: Arena<BasicBlock>,
     pub(crate) regions: Arena<Region>,
-    ghost ops: { vec_len operations.records ≡ 512 },
-    ghost blks: { vec_len blocks.records ≡ 256 },
-    ghost rgns: { vec_len regions.records ≡ 256 },
+    ghost ops: { capacity operations ≡ 512 },
+    ghost blks: { capacity blocks ≡ 256 },
+    ghost rgns: { capacity regions ≡ 256 },
 }

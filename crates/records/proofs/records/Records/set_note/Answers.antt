@@ -1,23 +1,24 @@
-use Rattle.std.proofs.Common.{set, Some, vec_items, sym, refl, subst}
+use Rattle.std.proofs.Common.{Some, sym, refl, ap, subst}
 use Rattle.arena.specs.Recorded.{shelf}
-use Rattle.arena.specs.Shelves.{Only, Shelf, at}
-use Rattle.arena.proofs.Shelving.{changed_only, live_items, live_records, read_at}
+use Rattle.arena.specs.Shelves.{Only, Shelf, at, changed}
+use Rattle.arena.proofs.Shelving.{changed_only, shelf_with}
 use Rattle.records.specs.declared.operation.Operation.{Operation}
+use Rattle.records.specs.Notes.{noted}
 use Rattle.records.proofs.records.Records.set_note.Goals as goal
-
-pub index_mut-requires : goal.index_mut-requires
-index_mut-requires c = live_records c.args.self.now.operations c.args.op.handle c.requires
 
 pub returns : goal.returns
 returns c =
-    let table = c.args.self.now.operations in
-    let after : Shelf Operation = record { pool = (shelf table).pool; records = set (vec_items table.records) c.args.op.handle.place c.set_note.new.self } in
+    let table = shelf c.args.self.now.operations in
+    let h = c.args.op.handle in
+    let old : Operation = c.record_mut.result.now in
+    let new : Operation = c.set_note.new.self in
+    let after = shelf_with c.args.self.now.operations h new in
     record {
-      old = c.index_mut.result.now;
-      was = sym (read_at table c.args.op.handle c.index_mut.result.now c.requires c.index_mut.ensures.value);
-      places = refl;
-      only = subst (λ (o : Operation). Only (at (shelf table)) (at after) c.args.op.handle (Some o)) c.set_note.ensures
-          (changed_only (shelf table) after c.args.op.handle c.set_note.new.self c.requires (live_items table c.args.op.handle c.requires) refl refl);
+      old = old;
+      was = c.record_mut.ensures.value;
+      places = ap (λ (s : Shelf Operation). s.pool) after;
+      only = subst (λ (s : Shelf Operation). Only (at table) (at s) h (Some (noted c.args.note old))) (sym after)
+          (subst (λ (o : Operation). Only (at table) (at (changed h new table)) h (Some o)) c.set_note.ensures (changed_only table h old new c.record_mut.ensures.value));
       blocks = refl;
       regions = refl;
     }
