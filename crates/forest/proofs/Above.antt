@@ -3,6 +3,7 @@ use Rattle.std.proofs.Common.{◌≡◌, ℕ, suc, ◌<◌, ◌⊎◌, Some, Non
 use Rattle.linked_list.specs.declared.spot.Spot.{Spot}
 use Rattle.linked_list.specs.declared.spot.Spot.TheVariants.{AtFront, AtBack, Before, After}
 use Rattle.linked_list.specs.Edits.{spot_in}
+use Rattle.linked_list.specs.Links.{View}
 use Rattle.trees.specs.Climbs.{Acyclic, Within, below}
 use Rattle.trees.proofs.Climbing.{depth, inside_root, inside_up, nearer, option_set}
 use Rattle.records.specs.declared.handles.BlockPtr.{BlockPtr}
@@ -10,11 +11,10 @@ use Rattle.records.specs.declared.handles.OpPtr.{OpPtr}
 use Rattle.records.specs.declared.handles.RegionPtr.{RegionPtr}
 use Rattle.records.specs.declared.ir_node.IRNode.{IRNode}
 use Rattle.records.specs.declared.ir_node.IRNode.TheVariants as node
-use Rattle.std.specs.Option.{option_map}
 use Rattle.records.specs.Models.{Model}
-use Rattle.records.specs.Nodes.{block_target, op_target, parent}
-use Rattle.records.specs.Views.{block_links, op_links}
+use Rattle.records.specs.Nodes.{parent}
 use Rattle.records.specs.Writes.{block_same, op_same, region_same}
+use Rattle.forest.specs.Linkings.{spot_node}
 
 -- nodes of two kinds are not the same
 op_block : {n : OpPtr} {b : BlockPtr} → node.BasicBlock b ≡ node.Operation n → ⊥
@@ -88,18 +88,13 @@ module _ (m : Model) (outer x : IRNode) where
   lower = lowered (parent m x) refl
 
 -- where what a spot names is not inside a node, the container that the spot lies in is not
-module _ (m : Model) (outer : IRNode) where
+module _ {N C : Type 0} (m : Model) (outer : IRNode) (v : View N C) (inner : N → IRNode) (holder : C → IRNode)
+    (up : (n : N) (c : C) → v.within n ≡ Some c → parent m (inner n) ≡ Some (holder c)) where
   some_same : {A : Type 0} {a b : A} → Some a ≡ Some b → a ≡ b
   some_same e = cc
 
-  pub block_outside : (spot : Spot OpPtr BlockPtr) (c : BlockPtr) → spot_in (op_links m) spot ≡ Some c → (Within (parent m) outer (op_target spot) → ⊥) → Within (parent m) outer (node.BasicBlock c) → ⊥
-  block_outside (AtFront b) c e out w = out (subst (λ (z : BlockPtr). Within (parent m) outer (node.BasicBlock z)) (sym (some_same e)) w)
-  block_outside (AtBack b) c e out w = out (subst (λ (z : BlockPtr). Within (parent m) outer (node.BasicBlock z)) (sym (some_same e)) w)
-  block_outside (Before k) c e out w = out (below (node.BasicBlock c) (ap (option_map node.BasicBlock) e) w)
-  block_outside (After k) c e out w = out (below (node.BasicBlock c) (ap (option_map node.BasicBlock) e) w)
-
-  pub region_outside : (spot : Spot BlockPtr RegionPtr) (c : RegionPtr) → spot_in (block_links m) spot ≡ Some c → (Within (parent m) outer (block_target spot) → ⊥) → Within (parent m) outer (node.Region c) → ⊥
-  region_outside (AtFront b) c e out w = out (subst (λ (z : RegionPtr). Within (parent m) outer (node.Region z)) (sym (some_same e)) w)
-  region_outside (AtBack b) c e out w = out (subst (λ (z : RegionPtr). Within (parent m) outer (node.Region z)) (sym (some_same e)) w)
-  region_outside (Before k) c e out w = out (below (node.Region c) (ap (option_map node.Region) e) w)
-  region_outside (After k) c e out w = out (below (node.Region c) (ap (option_map node.Region) e) w)
+  pub spot_outside : (spot : Spot N C) (c : C) → spot_in v spot ≡ Some c → (Within (parent m) outer (spot_node inner holder spot) → ⊥) → Within (parent m) outer (holder c) → ⊥
+  spot_outside (AtFront b) c e out w = out (subst (λ (z : C). Within (parent m) outer (holder z)) (sym (some_same e)) w)
+  spot_outside (AtBack b) c e out w = out (subst (λ (z : C). Within (parent m) outer (holder z)) (sym (some_same e)) w)
+  spot_outside (Before k) c e out w = out (below (holder c) (up k c e) w)
+  spot_outside (After k) c e out w = out (below (holder c) (up k c e) w)

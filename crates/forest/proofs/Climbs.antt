@@ -126,12 +126,12 @@ module _ (m : Model) (t : Tables m) where
   -- after the making of an operation
   pub made_acyclic : (kind : Kind) (name : Option ℕ) (count : ℕ) → cond kind.table count 1 ≡ 1 → Roomy kind count m → Acyclic (parent m) → Acyclic (parent (with_operation kind name count m))
   made_acyclic kind name count one r =
-      let new = new_operation kind name count (regions_made kind count m) in
+      let new = new_operation kind name (regions_made kind count m) in
       grown_acyclic m (with_operation kind name count m) _ _ _
       (more_one m.operations new t.op_places r.operations t.ops_even)
       (body_more kind.table m t r.blocks)
       (more_regions (next_op m) (body_of kind.table m) m.regions t.region_places t.regions_even count r.regions)
-      (λ k o e. (loose_new m.operations kind name count (regions_made kind count m) k o e).2)
+      (λ k o e. (loose_new m.operations kind name (regions_made kind count m) k o e).2)
       (body_in_new kind.table count one r.regions)
       (λ k y e. ap (λ (z : Region). live m.operations.pool z.parent_op.handle) e.3 ∙ next_dead m.operations.pool t.op_places r.operations)
 

@@ -22,7 +22,7 @@ body_keeps false m s h = none_keeps m.blocks
 pub operation_kept : (m n : Model) (kind : Kind) (name : Option ℕ) (count : ℕ) → Tables m → Roomy kind count m → n ≡ with_operation kind name count m → AllKept m n
 operation_kept m n kind name count t r e =
     subst (AllKept m) (sym e) (record {
-      operations = one_keeps m.operations (new_operation kind name count (regions_made kind count m)) t.op_places r.operations;
+      operations = one_keeps m.operations (new_operation kind name (regions_made kind count m)) t.op_places r.operations;
       blocks = body_keeps kind.table m t.block_places r.blocks;
       regions = (regions_grown (next_op m) (body_of kind.table m) m.regions count t.region_places r.regions).keeps;
     })

@@ -138,19 +138,19 @@ body_sound m t op operations true count one need fits h =
 body_sound m t op operations false count one need fits h =
     through h (λ s. (_, blocks_hold m (after m t op operations false count) _ _ _ _ (bodies false m) s.0 (plain_lists m t op operations s.0 count fits need) s.1))
 
-pub loose_new : (a : Shelf Operation) (kind : Kind) (name : Option ℕ) (count : ℕ) (regions : List RegionPtr) (k : Handle) (o : Operation) → Made a (new_operation kind name count regions) k o
+pub loose_new : (a : Shelf Operation) (kind : Kind) (name : Option ℕ) (regions : List RegionPtr) (k : Handle) (o : Operation) → Made a (new_operation kind name regions) k o
     → (o.next ≡ None) × (o.prev ≡ None) × (o.container ≡ None)
-loose_new a kind name count regions k o e = (ap (λ (z : Operation). z.next) e.1, ap (λ (z : Operation). z.prev) e.1, ap (λ (z : Operation). z.container) e.1)
+loose_new a kind name regions k o e = (ap (λ (z : Operation). z.next) e.1, ap (λ (z : Operation). z.prev) e.1, ap (λ (z : Operation). z.container) e.1)
 
 module _ (m : Model) (t : Tables m) where
   -- after the making of an operation
   pub made_op_lists : (kind : Kind) (name : Option ℕ) (count : ℕ) → Roomy kind count m → Sound (op_links m) → Sound (op_links (with_operation kind name count m))
   made_op_lists kind name count r h =
-      let new = new_operation kind name count (regions_made kind count m) in
+      let new = new_operation kind name (regions_made kind count m) in
       through h (λ s. (
         _,
         ops_hold m (with_operation kind name count m) _ _ (more_one m.operations new t.op_places r.operations t.ops_even) (body_more kind.table m t r.blocks)
-            (loose_new m.operations kind name count (regions_made kind count m)) (body_empty kind.table m) s.0 s.1,
+            (loose_new m.operations kind name (regions_made kind count m)) (body_empty kind.table m) s.0 s.1,
       ))
 
   pub made_block_lists : (kind : Kind) (name : Option ℕ) (count : ℕ) → cond kind.table count 1 ≡ 1 → Roomy kind count m → Sound (block_links m) → Sound (block_links (with_operation kind name count m))

@@ -7,3 +7,4 @@ pub mod Climbs
 pub mod Frames
 pub mod Owning
 pub mod Rowing
+pub mod Lefts

@@ -1,7 +1,6 @@
 -- Makings keep that operations and their regions know each other. Assumes nothing.
-use Rattle.std.proofs.Common.{◌≡◌, ℕ, zero, suc, ◌-◌, ◌<◌, ◌≤◌, true, List, [], ◌∷◌, ◌++◌, length, replicate, Some, None, Option, sym, refl, ap, ◌∙◌, subst, inl, inr, ⊎_elim, arith}
+use Rattle.std.proofs.Common.{◌≡◌, ℕ, zero, suc, ◌<◌, ◌≤◌, true, List, [], ◌∷◌, ◌++◌, length, Some, None, Option, sym, refl, ap, ◌∙◌, subst, inl, inr, ⊎_elim, arith}
 use mathlib.Core.Logic.{∥∥₁_map}
-use Rattle.std.proofs.lemmas.List.{take_at}
 use Rattle.std.proofs.lemmas.Bool.{cases_eq}
 use Rattle.arena.specs.declared.handle.Handle.{Handle}
 use Rattle.arena.specs.Pools.{live, next, room}
@@ -13,7 +12,7 @@ use Rattle.records.specs.declared.handles.RegionPtr.{RegionPtr}
 use Rattle.records.specs.declared.kind.Kind.{Kind}
 use Rattle.records.specs.declared.operation.Operation.{Operation}
 use Rattle.records.specs.declared.region.Region.{Region}
-use Rattle.records.specs.Makings.{Roomy, body_of, new_operation, new_region, no_region, region_ptrs, regions_made, with_block, with_operation, with_regions}
+use Rattle.records.specs.Makings.{Roomy, body_of, new_operation, new_region, region_ptrs, regions_made, with_block, with_operation, with_regions}
 use Rattle.records.specs.Models.{Untouched, Model, next_op, operation_at, region_at, region_of}
 use Rattle.records.specs.Nodes.{Belongs, Has, Owned, regions_of}
 use Rattle.records.proofs.Regions.{ptrs_long, regions_grown}
@@ -99,7 +98,7 @@ module _ (m : Model) (t : Tables m) (kind : Kind) (name : Option ℕ) (count : �
   body = body_of kind.table m
 
   abbrev made : Operation
-  made = new_operation kind name count (regions_made kind count m)
+  made = new_operation kind name (regions_made kind count m)
 
   ops : More m.operations after.operations (Made m.operations made)
   ops = more_one m.operations made t.op_places roomy.operations t.ops_even
@@ -107,15 +106,12 @@ module _ (m : Model) (t : Tables m) (kind : Kind) (name : Option ℕ) (count : �
   regions : More m.regions after.regions (MadeRegion (next_op m) body m.regions t.region_places t.regions_even count)
   regions = more_regions (next_op m) body m.regions t.region_places t.regions_even count roomy.regions
 
-  its_regions : regions_of made ≡ region_ptrs (next_op m) body count m.regions
-  its_regions = take_at (region_ptrs (next_op m) body count m.regions) (replicate (4 - count) no_region) count (ptrs_long (next_op m) body m.regions count)
-
   is_region : (i : ℕ) → i < count → item (regions_of made) i ≡ Some (region_of (region_handle (next_op m) body m t i))
-  is_region i h = ap (λ (rs : List RegionPtr). item rs i) its_regions ∙ ptr_item (next_op m) body m t count i h
+  is_region i h = ptr_item (next_op m) body m t count i h
 
   new_belongs : (i : ℕ) (r : RegionPtr) → item (regions_of made) i ≡ Some r → Belongs after (next_op m) i r
   new_belongs i r e =
-      let l = ap length its_regions ∙ ptrs_long (next_op m) body m.regions count in
+      let l = ptrs_long (next_op m) body m.regions count in
       let h = item_within (regions_of made) i r e in
       let lt : i < count = omega arith in
       let same : region_of (region_handle (next_op m) body m t i) ≡ r = some_same (sym (is_region i lt) ∙ e) in

@@ -1,5 +1,8 @@
 -- What each call on the store of operations, blocks and regions does.
-use Rattle.std.specs.Prelude.{◌≡◌, ℕ, ◌≤◌, Bool, true, false, Some, None, Option}
+use Rattle.std.specs.Prelude.{◌≡◌, ℕ, ◌≤◌, List, [], ◌∷◌, Some, None, Option, Result}
+use Rattle.result.specs.declared.refusal.Refusal.{Refusal}
+use Rattle.result.specs.declared.refusal.Refusal.TheVariants.{Dangling, RecordsFull}
+use Rattle.result.specs.Rows.{Answered}
 use Rattle.arena.specs.Pools.{room, unused_pool}
 use Rattle.arena.specs.Shelves.{at, Only}
 use Rattle.forest.specs.declared.forest.Forest.{Forest}
@@ -10,7 +13,7 @@ use Rattle.records.specs.declared.operation.Operation.{Operation}
 use Rattle.records.specs.declared.shape.Shape.{Shape}
 use Rattle.records.specs.Makings.{AllKept, Roomy, operation_made, with_block, with_operation}
 use Rattle.forest.specs.Forests.{model}
-use Rattle.records.specs.Models.{next_block, operation_at}
+use Rattle.records.specs.Models.{Model, next_block, operation_at}
 use Rattle.records.specs.Notes.{noted}
 
 -- a store in which nothing was ever made
@@ -26,10 +29,13 @@ pub record OperationMade (f : Forest) (shape : Shape) (name : Option ℕ) (r : M
   pub after : model t ≡ with_operation shape.kind name shape.count (model f)
   pub kept : AllKept (model f) (model t)
 
+-- the refusal of making an operation: too few records are free
+abbrev pub operation_rows : Model → Shape → List (Refusal × Type 0)
+operation_rows m shape = (RecordsFull, Roomy shape.kind shape.count m → ⊥) ∷ []
+
 -- an operation is made exactly where enough records are free; else all stays
-abbrev pub MakesOperation : Forest → Shape → Option ℕ → Option MadeOperation → Forest → Type 0
-MakesOperation f shape name None t = (Roomy shape.kind shape.count (model f) → ⊥) × (t ≡ f)
-MakesOperation f shape name (Some r) t = OperationMade f shape name r t
+abbrev pub MakesOperation : Forest → Shape → Option ℕ → Result MadeOperation Refusal → Forest → Type 0
+MakesOperation f shape name r t = Answered (operation_rows (model f) shape) (OperationMade f shape name) f r t
 
 -- what making a block answers and leaves
 pub record BlockMade (f : Forest) (r : BlockPtr) (t : Forest) : Type 0 where
@@ -38,10 +44,13 @@ pub record BlockMade (f : Forest) (r : BlockPtr) (t : Forest) : Type 0 where
   pub after : model t ≡ with_block (model f)
   pub kept : AllKept (model f) (model t)
 
+-- the refusal of making a block: no record is free
+abbrev pub block_rows : Model → List (Refusal × Type 0)
+block_rows m = (RecordsFull, room m.blocks.pool ≡ 0) ∷ []
+
 -- a block is made exactly where a record is free; else all stays
-abbrev pub MakesBlock : Forest → Option BlockPtr → Forest → Type 0
-MakesBlock f None t = (room (model f).blocks.pool ≡ 0) × (t ≡ f)
-MakesBlock f (Some r) t = BlockMade f r t
+abbrev pub MakesBlock : Forest → Result BlockPtr Refusal → Forest → Type 0
+MakesBlock f r t = Answered (block_rows (model f)) (BlockMade f) f r t
 
 -- a note set: the operation has it, and all else stays, in this table and in the others
 pub record Noted (f : Forest) (op : OpPtr) (note : ℕ) (t : Forest) : Type 0 where
@@ -52,7 +61,10 @@ pub record Noted (f : Forest) (op : OpPtr) (note : ℕ) (t : Forest) : Type 0 wh
   pub blocks : (model t).blocks ≡ (model f).blocks
   pub regions : (model t).regions ≡ (model f).regions
 
+-- the handle names no live operation
+abbrev pub handle_rows : Model → OpPtr → List (Refusal × Type 0)
+handle_rows m op = (Dangling, operation_at m op ≡ None) ∷ []
+
 -- a dead handle is not noted, and all stays
-abbrev pub Notes : Forest → OpPtr → ℕ → Bool → Forest → Type 0
-Notes f op note true t = Noted f op note t
-Notes f op note false t = (operation_at (model f) op ≡ None) × (t ≡ f)
+abbrev pub Notes : Forest → OpPtr → ℕ → Result (Unit {0}) Refusal → Forest → Type 0
+Notes f op note r t = Answered (handle_rows (model f) op) (λ _ u. Noted f op note u) f r t

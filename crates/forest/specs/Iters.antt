@@ -16,6 +16,10 @@ use Rattle.forest.specs.Forests.{model}
 abbrev pub iter_rows : {N C : Type 0} → View N C → C → List (Refusal × Type 0)
 iter_rows v c = (Dangling, v.held c ≡ false) ∷ []
 
+-- what is left is the whole list of the container
+abbrev pub Whole : {N C : Type 0} → View N C → C → Span N → Type 0
+Whole {N} {C} v c left = (L : C → List N) → Holds v L → Spans v c (L c) left
+
 -- an iterator over a store, with what it has left: at first all children of the container
 pub record Starts {N C : Type 0} (links : Forest → View N C) (f : Forest) (c : C) (g : Forest) (left : Span N) : Type 0 where
   pub store : g ≡ f

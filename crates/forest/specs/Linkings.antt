@@ -1,15 +1,17 @@
 -- What linking and unlinking do: the refusals in the order in which they are tested, and else the children after.
-use Rattle.std.specs.Prelude.{◌≡◌, true, false, ◌⊎◌, List, [], ◌∷◌, is_some, Some, None, Result}
+use Rattle.std.specs.Prelude.{◌≡◌, true, false, ◌⊎◌, List, [], ◌∷◌, is_some, Some, None, Ok, Err, Result}
 use Rattle.result.specs.declared.refusal.Refusal.{Refusal}
 use Rattle.result.specs.declared.refusal.Refusal.TheVariants.{AlreadyLinked, Dangling, FixedBody, GoesThroughTable, MarkNotLinked, NotLinked, WouldContainItself}
-use Rattle.result.specs.Rows.{Answered}
+use Rattle.result.specs.Rows.{Answered, Uppermost}
 use Rattle.linked_list.specs.declared.spot.Spot.{Spot}
+use Rattle.linked_list.specs.declared.spot.Spot.TheVariants.{After, AtBack, AtFront, Before}
 use Rattle.linked_list.specs.Edits.{Inserts, Removes, spot_in, spot_live}
 use Rattle.linked_list.specs.Links.{View}
 use Rattle.trees.specs.Climbs.{Within}
 use Rattle.records.specs.declared.handles.BlockPtr.{BlockPtr}
 use Rattle.records.specs.declared.handles.OpPtr.{OpPtr}
 use Rattle.records.specs.declared.handles.RegionPtr.{RegionPtr}
+use Rattle.records.specs.declared.ir_node.IRNode.{IRNode}
 use Rattle.records.specs.declared.ir_node.IRNode.TheVariants as node
 use Rattle.records.specs.Models.{Model}
 use Rattle.records.specs.Nodes.{block_target, is, of_table, op_target, parent, table_bound}
@@ -20,6 +22,42 @@ use Rattle.forest.specs.Forests.{model}
 -- the node, or what the spot names, is not live
 abbrev pub Dead : {N C : Type 0} → View N C → N → Spot N C → Type 0
 Dead v n spot = (v.live n ≡ false) ⊎ (spot_live v spot ≡ false)
+
+-- the first refusals of linking, for a node of either kind
+abbrev pub enter_rows : {N C : Type 0} → View N C → N → Spot N C → List (Refusal × Type 0)
+enter_rows v n spot =
+    (Dangling, Dead v n spot)
+    ∷ (AlreadyLinked, is_some (v.within n) ≡ true)
+    ∷ (MarkNotLinked, spot_in v spot ≡ None)
+    ∷ []
+
+-- the node and what the spot names are live, the node stands in no container, and the spot lies in the container c
+pub record Passed {N C : Type 0} (v : View N C) (n : N) (spot : Spot N C) (c : C) : Type 0 where
+  pub alive : v.live n ≡ true
+  pub there : spot_live v spot ≡ true
+  pub loose : v.within n ≡ None
+  pub into : spot_in v spot ≡ Some c
+
+-- the container that the node enters at the spot
+abbrev pub Enters : {N C : Type 0} → View N C → N → Spot N C → Result C Refusal → Type 0
+Enters v n spot (Ok c) = Passed v n spot c
+Enters v n spot (Err e) = Uppermost (enter_rows v n spot) e
+
+-- the first refusals of unlinking, for a node of either kind
+abbrev pub leave_rows : {N C : Type 0} → View N C → N → List (Refusal × Type 0)
+leave_rows v n = (Dangling, v.live n ≡ false) ∷ (NotLinked, v.within n ≡ None) ∷ []
+
+-- the container that the node leaves
+abbrev pub Leaves : {N C : Type 0} → View N C → N → Result C Refusal → Type 0
+Leaves v n (Ok c) = (v.live n ≡ true) × (v.within n ≡ Some c)
+Leaves v n (Err e) = Uppermost (leave_rows v n) e
+
+-- what a spot names, its container or its mark, as a node
+abbrev pub spot_node : {N C : Type 0} → (N → IRNode) → (C → IRNode) → Spot N C → IRNode
+spot_node inner outer (AtFront c) = outer c
+spot_node inner outer (AtBack c) = outer c
+spot_node inner outer (Before mark) = inner mark
+spot_node inner outer (After mark) = inner mark
 
 -- the refusals of linking an operation at a spot, uppermost first
 abbrev pub link_op_rows : Model → OpPtr → Spot OpPtr BlockPtr → List (Refusal × Type 0)

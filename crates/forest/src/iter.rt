@@ -1,4 +1,6 @@
 // The iterators over the operations of a block and the blocks of a region; each borrows the store while it stands.
+// Kept: one thin type for each kind of node over one generic step, a rule of the project, so that no struct holds a reference beside
+// a value of a parameter type.
 ghost use Rattle.linked_list.specs.Spans.{Spanned};
 ghost use Rattle.records.specs.Views.{block_view, op_view};
 

@@ -1,13 +1,14 @@
 // The store of operations, blocks and regions: its links always describe lists of children, and nothing contains itself.
 #![tactic(auto)]
 
+mod child;
 mod climbing;
+mod entering;
 mod forest;
 mod iter;
 mod iterating;
 mod linking;
 mod making;
-mod nodes;
 
 pub use forest::Forest;
 pub use iter::{BlockIter, OpIter};

@@ -1,14 +1,14 @@
 // Building the store, making nodes in it, and reading and noting operations.
 ghost use Rattle.std.specs.Prelude.{◌≡◌, IfOk, MatchBool};
+ghost use Rattle.arena.specs.Pools.{live};
+ghost use Rattle.arena.specs.Shelves.{at};
 ghost use Rattle.forest.specs.Calls.{Fresh, MakesBlock, MakesOperation, Notes};
 ghost use Rattle.forest.specs.Forests.{model};
 ghost use Rattle.records.specs.Makings.{Roomy};
-ghost use Rattle.records.specs.Models.{block_at, operation_at, region_at};
 
 use crate::forest::Forest;
-use records::{
-    BasicBlock, BlockPtr, MadeOperation, OpPtr, Operation, Records, Region, RegionPtr, Shape,
-};
+use records::{BlockPtr, MadeOperation, OpPtr, Ptr, Records, Shape};
+use result::Refusal;
 use std::alloc::{AllocError, Global};
 
 impl Forest {
@@ -20,25 +20,18 @@ impl Forest {
         Ok(Forest { records })
     }
 
-    // The record of a live operation.
-    pub fn operation(&self, op: OpPtr) -> Option<Operation>
-        ensures { result ≡ operation_at (model self.now) op }
+    // The record that a live handle names.
+    pub fn get<P: Ptr>(&self, p: P) -> Option<P::Record>
+        ensures { result ≡ at (P.table (model self.now)) (P.handle p) }
     {
-        self.records.operation(op)
+        self.records.get(p)
     }
 
-    // The record of a live block.
-    pub fn block(&self, block: BlockPtr) -> Option<BasicBlock>
-        ensures { result ≡ block_at (model self.now) block }
+    // Whether the handle is live.
+    pub fn is_live<P: Ptr>(&self, p: P) -> bool
+        ensures { result ≡ live (P.table (model self.now)).pool (P.handle p) }
     {
-        self.records.block(block)
-    }
-
-    // The record of a live region.
-    pub fn region(&self, region: RegionPtr) -> Option<Region>
-        ensures { result ≡ region_at (model self.now) region }
-    {
-        self.records.region(region)
+        self.records.is_live(p)
     }
 
     // How many operations were ever made.
@@ -56,33 +49,37 @@ impl Forest {
     }
 
     // Makes an operation with its regions and, for a table, its body.
-    pub fn make_operation(&mut self, shape: Shape, name: Option<u16>) -> Option<MadeOperation>
+    pub fn make_operation(
+        &mut self,
+        shape: Shape,
+        name: Option<u16>,
+    ) -> Result<MadeOperation, Refusal>
         ensures { MakesOperation self.old shape name result self.new }
     {
         if !self.has_room(shape) {
-            return None;
+            return Err(Refusal::RecordsFull);
         }
-        Some(self.records.make_operation(shape, name))
+        Ok(self.records.make_operation(shape, name))
     }
 
     // Makes a block that stands in no region.
-    pub fn make_block(&mut self) -> Option<BlockPtr>
+    pub fn make_block(&mut self) -> Result<BlockPtr, Refusal>
         ensures { MakesBlock self.old result self.new }
     {
         if self.records.blocks_left() == 0 {
-            return None;
+            return Err(Refusal::RecordsFull);
         }
-        Some(self.records.make_block())
+        Ok(self.records.make_block())
     }
 
-    // Sets the note of a live operation; at a dead handle nothing is done and the answer is false.
-    pub fn set_note(&mut self, op: OpPtr, note: u32) -> bool
+    // Sets the note of a live operation.
+    pub fn set_note(&mut self, op: OpPtr, note: u32) -> Result<(), Refusal>
         ensures { Notes self.old op note result self.new }
     {
-        if !self.records.has_operation(op) {
-            return false;
+        if !self.records.is_live(op) {
+            return Err(Refusal::Dangling);
         }
         self.records.set_note(op, note);
-        true
+        Ok(())
     }
 }

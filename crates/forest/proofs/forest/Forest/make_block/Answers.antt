@@ -1,4 +1,4 @@
-use Rattle.std.proofs.Common.{◌≤◌, sym, subst, arith}
+use Rattle.std.proofs.Common.{◌≡◌, ◌≤◌, sym, subst, arith}
 use Rattle.arena.specs.Pools.{room}
 use Rattle.linked_list.specs.Links.{Sound}
 use Rattle.records.specs.Models.{Model, tables}
@@ -27,5 +27,7 @@ invariant_of-self c =
 pub returns : goal.returns
 returns c =
     let m = tables c.args.self.now.records in
-    let some : 1 ≤ room m.blocks.pool = let e = c.blocks_left.ensures in let n = c.if-blocks_left-eq0.false in omega arith in
-    record { roomy = some; answer = c.make_block.ensures.given; after = c.make_block.ensures.after; kept = block_kept m _ (tables_of c.args.self.now.records) some c.make_block.ensures.after }
+    let some : 1 ≤ room m.blocks.pool = let e = c.blocks_left.ensures in let n = c.if-blocks_left-eq0.false in omega arith in (
+      ((λ (e : room m.blocks.pool ≡ 0). omega arith), tt),
+      record { roomy = some; answer = c.make_block.ensures.given; after = c.make_block.ensures.after; kept = block_kept m _ (tables_of c.args.self.now.records) some c.make_block.ensures.after },
+    )

@@ -26,10 +26,12 @@ invariant_of-self c =
 pub returns : goal.returns
 returns c =
     let m = tables c.args.self.now.records in
-    let roomy = c.if-not-has_room.ensures in
-    record {
-      roomy = roomy;
-      answer = c.make_operation.ensures.answer;
-      after = c.make_operation.ensures.after;
-      kept = operation_kept m _ c.args.shape.kind c.args.name c.args.shape.count (tables_of c.args.self.now.records) roomy c.make_operation.ensures.after;
-    }
+    let roomy = c.if-not-has_room.ensures in (
+      ((λ lack. lack roomy), tt),
+      record {
+        roomy = roomy;
+        answer = c.make_operation.ensures.answer;
+        after = c.make_operation.ensures.after;
+        kept = operation_kept m _ c.args.shape.kind c.args.name c.args.shape.count (tables_of c.args.self.now.records) roomy c.make_operation.ensures.after;
+      },
+    )

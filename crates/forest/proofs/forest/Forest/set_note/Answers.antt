@@ -1,12 +1,8 @@
-use Rattle.std.proofs.Common.{sym, refl, subst}
-use Rattle.arena.proofs.Shelving.{at_dead}
+use Rattle.std.proofs.Common.{sym, subst}
 use Rattle.linked_list.specs.Links.{Sound}
 use Rattle.records.specs.Models.{tables}
 use Rattle.forest.proofs.Frames.{noted_acyclic, noted_block_links, noted_op_links, noted_owned}
 use Rattle.forest.proofs.forest.Forest.set_note.Goals as goal
-
-pub returns-then-not-has_operation : goal.returns-then-not-has_operation
-returns-then-not-has_operation c = (at_dead (tables c.args.self.now.records).operations c.args.op.handle (sym c.if-not-has_operation.ensures), refl)
 
 pub invariant_of-self : goal.invariant_of-self
 invariant_of-self c =

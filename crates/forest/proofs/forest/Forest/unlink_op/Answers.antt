@@ -1,4 +1,4 @@
-use Rattle.std.proofs.Common.{sym, ap, ◌∙◌, subst}
+use Rattle.std.proofs.Common.{sym, ap, subst}
 use Rattle.std.specs.Option.{option_map}
 use Rattle.linked_list.specs.Links.{Sound}
 use Rattle.records.specs.declared.ir_node.IRNode.TheVariants as node
@@ -9,10 +9,10 @@ use Rattle.forest.proofs.forest.Forest.unlink_op.Goals as goal
 pub invariant_of-self : goal.invariant_of-self
 invariant_of-self c =
     let m = tables c.args.self.now.records in
-    let n = tables c.unlink_op.new.self in
-    let rest = c.unlink_op.ensures.rest in
-    let moves = (c.unlink_op.ensures.removes c.in-Some.block (sym c.block_of.ensures ∙ c.in-Some.is)).moves in record {
-      oplists = c.unlink_op.ensures.sound;
+    let n = tables c.unlink.new.ctx in
+    let rest = c.unlink.ensures.rest in
+    let moves = (c.unlink.ensures.removes _ c.in_ok-block.ensures.1).moves in record {
+      oplists = c.unlink.ensures.sound;
       blocklists = subst Sound (sym (op_edit_links m n rest)) c.args.self.now.blocklists;
       owned = op_edit_owned m n rest c.args.self.now.owned;
       acyclic = unlinked_acyclic m n (node.Operation c.args.op) (op_edit_other m n rest c.args.op _ moves) (ap (option_map node.BasicBlock) moves.here) c.args.self.now.acyclic;

@@ -1,6 +1,6 @@
 use Rattle.forest.specs.Forests.{model}
 use Rattle.forest.proofs.Above.{Inside?, to_climb}
-use Rattle.forest.proofs.forest.Forest.climbs_to.Given as goal
+use Rattle.forest.proofs.forest.Forest.contains.Given as goal
 
 -- the node lies inside the outer one exactly if the node come to does
 abbrev pub invariant-climb : goal.invariant-climb
