@@ -1,5 +1,5 @@
 -- Every operation's name stays held, and a store that changed in no part is the same store. Assumes nothing.
-use Rattle.std.proofs.Common.{◌≡◌, ℕ, ◌<◌, ◌≤◌, Bool, true, false, List, [], ◌∷◌, ◌++◌, length, is_some, Some, None, Ok, Err, vec_items, MatchBool, Option, Result, sym, refl, ap, ◌∙◌, subst, inl, inr, arith}
+use Rattle.std.proofs.Common.{◌≡◌, ℕ, ◌<◌, ◌≤◌, Bool, false, List, [], ◌∷◌, ◌++◌, length, is_some, Some, None, Ok, Err, vec_items, MatchBool, Option, Result, sym, refl, ap, ◌∙◌, subst, inl, inr, arith}
 use mathlib.Core.Logic.{∥∥₁_elim, ∥∥₁_prop}
 use native.Mathlib.Bridge.{le_prop}
 use Rattle.std.proofs.lemmas.List.{length-map, length_push}
@@ -31,7 +31,7 @@ use Rattle.names.specs.declared.names.Names.{Names}
 use Rattle.names.specs.Held.{Finds, held}
 use Rattle.names.specs.Held.{Reads as NamesRead}
 use Rattle.std.specs.Option.{option_map}
-use Rattle.result.specs.Rows.{NoRow}
+use Rattle.result.specs.Rows.{Answered, NoRow}
 use Rattle.ir.specs.declared.context.Context.{Context}
 use Rattle.ir.specs.Calls.{Holding, operation_rows}
 use Rattle.ir.specs.Stores.{name_at, name_of, names, nodes}
@@ -77,23 +77,23 @@ pub made_held : (f : Forest) (m : Model) (before after : List (List ℕ)) (kind 
 made_held f m before after kind count name number held given roomy e =
     let longer = given_longer before after name number given in
     let most = longer.1 in
-    let new = new_operation kind number count (regions_made kind count (model f)) in
+    let new = new_operation kind number (regions_made kind count (model f)) in
     let P : Operation → Type 0 = λ o. (i : ℕ) → o.name ≡ Some i → i < length after in
     let only = enter_only (model f).operations new (sound_shelf f.records.operations) roomy.operations (shelf_long f.records.operations) in
     let all = only_all _ _ _ new P only longer.0 (λ k y z i q. let lt = held.number (record { handle = k }) y i z q in omega arith) in
     subst (λ (n : Model). NumbersHeld n (length after)) (sym e) (record { number = λ op o i z q. all op.handle o z i q })
 
 -- a block that is made, and a note that is set, leave the names as they are
-pub block_held : (f t : Forest) (r : Option BlockPtr) (n : ℕ) → MakesBlock f r t → NumbersHeld (model f) n → NumbersHeld (model t) n
-block_held f t None n e h = subst (λ (g : Forest). NumbersHeld (model g) n) (sym e.1) h
-block_held f t (Some r) n e h =
-    subst (λ (m : Model). NumbersHeld m n) (sym e.after) (record { number = λ op o i z q. h.number op o i z q })
+pub block_held : (f t : Forest) (r : Result BlockPtr Refusal) (n : ℕ) → MakesBlock f r t → NumbersHeld (model f) n → NumbersHeld (model t) n
+block_held f t (Err x) n e h = subst (λ (g : Forest). NumbersHeld (model g) n) (sym e.1) h
+block_held f t (Ok r) n e h =
+    subst (λ (m : Model). NumbersHeld m n) (sym e.1.after) (record { number = λ op o i z q. h.number op o i z q })
 
-pub noted_held : (f t : Forest) (op : OpPtr) (note : ℕ) (b : Bool) (n : ℕ) → Notes f op note b t → NumbersHeld (model f) n → NumbersHeld (model t) n
-noted_held f t op note false n e h = subst (λ (g : Forest). NumbersHeld (model g) n) (sym e.1) h
-noted_held f t op note true n e h =
+pub noted_held : (f t : Forest) (op : OpPtr) (note : ℕ) (r : Result (Unit {0}) Refusal) (n : ℕ) → Notes f op note r t → NumbersHeld (model f) n → NumbersHeld (model t) n
+noted_held f t op note (Err x) n e h = subst (λ (g : Forest). NumbersHeld (model g) n) (sym e.1) h
+noted_held f t op note (Ok x) n e h =
     let P : Operation → Type 0 = λ o. (i : ℕ) → o.name ≡ Some i → i < n in
-    let all = only_all (at (model f).operations) (at (model t).operations) op.handle (noted note e.old) P e.only (λ i q. h.number op e.old i e.was q)
+    let all = only_all (at (model f).operations) (at (model t).operations) op.handle (noted note e.1.old) P e.1.only (λ i q. h.number op e.1.old i e.1.was q)
     (λ k y z i q. h.number (record { handle = k }) y i z q) in
     record { number = λ p o i z q. all p.handle o z i q }
 
@@ -118,23 +118,28 @@ can_hold_when s n (Some i) b f e l = subst (λ (c : Bool). MatchBool c (Full (he
 some_none : {X : Type 0} (x : X) (o : Option X) → o ≡ Some x → o ≡ None → ⊥
 some_none x o p q = let z : ◌≡◌ {A = ℕ} 0 1 = cc in omega arith
 
+same_option : {X : Type 0} (x : Option X) → option_map (λ y. y) x ≡ x
+same_option None = refl
+same_option (Some y) = refl
+
 -- the name of a live operation, from what stands under its number
-pub read_name : (s : Context) (op : OpPtr) (o : Operation) (i : ℕ) (r : Option Identifier) → Some o ≡ operation_at (nodes s) op → o.name ≡ Some i → NamesRead s.names i r
+pub read_name : (s : Context) (op : OpPtr) (o : Operation) (i : ℕ) (r : Option Identifier) → option_map (λ y. y) (operation_at (nodes s) op) ≡ Some o → o.name ≡ Some i → NamesRead s.names i r
     → NoRow (operation_rows s op) × (option_map (name_of (names s)) (operation_at (nodes s) op) ≡ Some (option_map text r))
 read_name s op o i None e n h =
-    let lt = (numbers_held (nodes s) (length (names s)) s.numbers).number op o i (sym e) n in absurd (omega arith)
-read_name s op o i (Some x) e n h = (
-  (some_none o (operation_at (nodes s) op) (sym e), tt),
-  ap (option_map (name_of (names s))) (sym e) ∙ ap (λ (m : Option ℕ). Some (name_at (names s) m)) n ∙ ap (λ (t : List ℕ). Some (Some t)) (h.is []),
-)
+    let lt = (numbers_held (nodes s) (length (names s)) s.numbers).number op o i (sym (same_option (operation_at (nodes s) op)) ∙ e) n in absurd (omega arith)
+read_name s op o i (Some x) e n h =
+    let is = sym (same_option (operation_at (nodes s) op)) ∙ e in (
+      (some_none o (operation_at (nodes s) op) is, tt),
+      ap (option_map (name_of (names s))) is ∙ ap (λ (m : Option ℕ). Some (name_at (names s) m)) n ∙ ap (λ (t : List ℕ). Some (Some t)) (h.is []),
+    )
 
 -- what a making leaves, whatever it answers, where enough records are free
-pub shaped_held : (f t : Forest) (before after : List (List ℕ)) (shape : Shape) (name : Option Identifier) (number : Option ℕ) (r : Option MadeOperation)
+pub shaped_held : (f t : Forest) (before after : List (List ℕ)) (shape : Shape) (name : Option Identifier) (number : Option ℕ) (r : Result MadeOperation Refusal)
     → NumbersHeld (model f) (length before) → NumberGiven before name number after → MakesOperation f shape number r t → Roomy shape.kind shape.count (model f)
     → NumbersHeld (model t) (length after)
-shaped_held f t before after shape name number None held given made roomy = absurd (made.0 roomy)
-shaped_held f t before after shape name number (Some r) held given made roomy =
-    made_held f (model t) before after shape.kind shape.count name number held given roomy made.after
+shaped_held f t before after shape name number (Err e) held given made roomy = absurd (elim made.0 [ inl h ↦ h.1 roomy | inr h ↦ h.1 ])
+shaped_held f t before after shape name number (Ok r) held given made roomy =
+    made_held f (model t) before after shape.kind shape.count name number held given roomy made.1.after
 
 -- where no fewer than 256 names are held, 256 are
 pub all_held : (s : Names) → 256 ≤ length (held s) → length (held s) ≡ 256
@@ -177,3 +182,9 @@ module _ (f t : Forest) (n : ℕ) (held : NumbersHeld (model f) n) where
   pub block_unlinked_held : (block : BlockPtr) (r : Result (Unit {0}) Refusal) → UnlinksBlock f block r t → NumbersHeld (model t) n
   block_unlinked_held block (Ok x) a = block_edit_held (model f) (model t) n a.1.rests held
   block_unlinked_held block (Err e) a = stays a.1
+
+-- what a call on the nodes answers, a call on the store does, where the names stay
+pub answered : {X : Type 0} (rows : List (Refusal × Type 0)) (done : X → Forest → Type 0) (all : X → Context → Type 0) (s t : Context) → t.names ≡ s.names → ((x : X) → done x t.forest → all x t)
+    → (r : Result X Refusal) → Answered rows done s.forest r t.forest → Answered rows all s r t
+answered rows done all s t same whole (Ok x) a = (a.0, whole x a.1)
+answered rows done all s t same whole (Err e) a = (a.0, same_context s t a.1 same)

@@ -1,5 +1,5 @@
 -- What each call on a store does: its refusals in the order in which they are tested, and else its answer and the store after.
-use Rattle.std.specs.Prelude.{◌≡◌, ℕ, ◌<◌, Bool, true, false, cond, ◌⊎◌, List, [], ◌∷◌, ◌++◌, length, Some, None, Option, Result, nat_lt}
+use Rattle.std.specs.Prelude.{◌≡◌, ℕ, ◌<◌, Bool, true, false, ◌⊎◌, List, [], ◌∷◌, ◌++◌, length, Some, None, Option, Result, nat_lt}
 use Rattle.arena.specs.Pools.{room}
 use Rattle.arena.specs.Shelves.{item}
 use Rattle.std.specs.Option.{option_map}
@@ -105,11 +105,11 @@ NoteRead s op r = Reads s op (λ o. o.note) r
 
 -- how many regions the operation has
 abbrev pub NumRegions : Context → OpPtr → Result ℕ Refusal → Type 0
-NumRegions s op r = Reads s op (λ o. o.count) r
+NumRegions s op r = Reads s op (λ o. length o.regions) r
 
 -- the region at an index, counted from 0, or none past the last
 abbrev pub region_nth : ℕ → Operation → Option RegionPtr
-region_nth index o = cond (nat_lt index o.count) (item o.regions index) None
+region_nth index o = item o.regions index
 
 -- reading an operation's region
 abbrev pub RegionRead : Context → OpPtr → ℕ → Result (Option RegionPtr) Refusal → Type 0

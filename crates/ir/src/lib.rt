@@ -9,4 +9,4 @@ mod noting;
 pub use context::Context;
 pub use forest::{BlockIter, OpIter};
 pub use linked_list::Spot;
-pub use records::{BlockPtr, IRNode, Kind, MadeOperation, OpPtr, RegionPtr};
+pub use records::{BlockPtr, IRNode, Kind, MadeOperation, OpPtr, RegionList, RegionPtr};

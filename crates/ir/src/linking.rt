@@ -1,4 +1,6 @@
 // Linking operations into blocks and blocks into regions, unlinking them, and going through children.
+// Kept: each call once for operations and once for blocks, and one for each spot, a rule of the project: a block's handle where an
+// operation's is wanted must not compile.
 ghost use Rattle.std.specs.Prelude.{◌≡◌, MatchResult};
 ghost use Rattle.linked_list.specs.declared.spot.Spot.TheVariants.{After, AtBack, AtFront, Before};
 ghost use Rattle.result.specs.Rows.{NoRow, Uppermost};
@@ -44,30 +46,23 @@ impl Context {
     pub fn insert_op(&mut self, op: OpPtr, spot: Spot<OpPtr, BlockPtr>) -> Result<(), Refusal>
         ensures { InsertOpCall self.old op spot result self.new }
     {
-        match self.forest.link_op(op, spot) {
-            Ok(()) => Ok(()),
-            Err(refusal) => Err(refusal),
-        }
+        self.forest.link_op(op, spot)
     }
 
     // Unlinks an operation from its block.
     pub fn unlink_op(&mut self, op: OpPtr) -> Result<(), Refusal>
         ensures { UnlinkOpCall self.old op result self.new }
     {
-        match self.forest.unlink_op(op) {
-            Ok(()) => Ok(()),
-            Err(refusal) => Err(refusal),
-        }
+        self.forest.unlink_op(op)
     }
 
     // Whether an operation stands in a block.
+    #[tactic(auto, using(crate::proofs::Dangling::names_none))]
     pub fn is_op_linked(&self, op: OpPtr) -> Result<bool, Refusal>
         ensures { OpIsLinked self.now op result }
     {
-        if !self.forest.has_operation(op) {
-            return Err(Refusal::Dangling);
-        }
-        Ok(self.forest.block_of(op).is_some())
+        let operation = self.forest.get(op).ok_or(Refusal::Dangling)?;
+        Ok(operation.container.is_some())
     }
 
     // Links a block into a region, as its first.
@@ -114,30 +109,23 @@ impl Context {
     ) -> Result<(), Refusal>
         ensures { InsertBlockCall self.old block spot result self.new }
     {
-        match self.forest.link_block(block, spot) {
-            Ok(()) => Ok(()),
-            Err(refusal) => Err(refusal),
-        }
+        self.forest.link_block(block, spot)
     }
 
     // Unlinks a block from its region.
     pub fn unlink_block(&mut self, block: BlockPtr) -> Result<(), Refusal>
         ensures { UnlinkBlockCall self.old block result self.new }
     {
-        match self.forest.unlink_block(block) {
-            Ok(()) => Ok(()),
-            Err(refusal) => Err(refusal),
-        }
+        self.forest.unlink_block(block)
     }
 
     // Whether a block stands in a region.
+    #[tactic(auto, using(crate::proofs::Dangling::names_none))]
     pub fn is_block_linked(&self, block: BlockPtr) -> Result<bool, Refusal>
         ensures { BlockIsLinked self.now block result }
     {
-        if !self.forest.has_block(block) {
-            return Err(Refusal::Dangling);
-        }
-        Ok(self.forest.region_of(block).is_some())
+        let block = self.forest.get(block).ok_or(Refusal::Dangling)?;
+        Ok(block.container.is_some())
     }
 
     // The operations of a block, to be gone through from either end.

@@ -28,10 +28,7 @@ fn optional_name(name: &[u8]) -> Result<Option<Identifier>, Refusal>
     if name.is_empty() {
         return Ok(None);
     }
-    match Identifier::try_new(name) {
-        Ok(identifier) => Ok(Some(identifier)),
-        Err(why) => Err(why),
-    }
+    Ok(Some(Identifier::try_new(name)?))
 }
 
 // The number of the name, if there is one; it is held from now on.
@@ -39,10 +36,7 @@ fn hold_name(names: &mut Names, name: Option<Identifier>) -> Option<u16>
     requires { Full (held names.old) name → ⊥ }
     ensures { NumberGiven (held names.old) name result (held names.new) }
 {
-    match name {
-        Some(identifier) => names.hold(identifier),
-        None => None,
-    }
+    names.hold(name?)
 }
 
 impl Context {
@@ -59,29 +53,26 @@ impl Context {
     pub fn make_block(&mut self) -> Result<BlockPtr, Refusal>
         ensures { MakeBlockCall self.old result self.new }
     {
-        match self.forest.make_block() {
-            Some(block) => Ok(block),
-            None => Err(Refusal::RecordsFull),
-        }
+        self.forest.make_block()
     }
 
     // Whether the name, if there is one, is held or can be.
+    // Kept: `is_none_or` was tried, and what its closure answers was not proved.
     fn can_hold(&self, name: Option<Identifier>) -> bool
         ensures { MatchBool result (Full (names self.now) name → ⊥) (Full (names self.now) name) }
     {
-        match name {
-            None => true,
-            Some(identifier) => self.names.count() < 256 || self.names.find(identifier).is_some(),
-        }
+        let Some(identifier) = name else {
+            return true;
+        };
+        self.names.count() < 256 || self.names.find(identifier).is_some()
     }
 
     // Tests the rows of a making, in their order; nothing changes.
+    // Kept: the kind is a sum in a byte, a rule of the project, since a sum above 7 is refused as a bad shape.
     fn admit(&self, kind: u8, regions: u8, name: &[u8]) -> Result<Admitted, Refusal>
         ensures { Admits self.now kind regions name.now result }
     {
-        let Some(shape) = Shape::new(kind, regions, name.len() > 0) else {
-            return Err(Refusal::BadShape);
-        };
+        let shape = Shape::new(kind, regions, !name.is_empty()).ok_or(Refusal::BadShape)?;
         let identifier = optional_name(name)?;
         if !self.can_hold(identifier) {
             return Err(Refusal::NamesFull);
@@ -102,14 +93,12 @@ impl Context {
         ensures { AdmittedMade self.old admitted result self.new }
     {
         let number = hold_name(&mut self.names, admitted.name);
-        match self.forest.make_operation(admitted.shape, number) {
-            Some(made) => made,
-            None => unreachable(),
-        }
+        self.forest.make_operation(admitted.shape, number).unwrap()
     }
 
     // Makes an operation of this kind (a sum of 1 for a table, 2 for a symbol and 4 for a terminator) with so many regions
     // and this name; a name of no bytes is no name.
+    // Kept: the kind is a sum in a byte, a rule of the project, since a sum above 7 is refused as a bad shape.
     pub fn make_operation(
         &mut self,
         kind: u8,
@@ -118,9 +107,7 @@ impl Context {
     ) -> Result<MadeOperation, Refusal>
         ensures { MakeOperationCall self.old kind regions name.now result self.new }
     {
-        match self.admit(kind, regions, name) {
-            Err(refusal) => Err(refusal),
-            Ok(admitted) => Ok(self.make_admitted(admitted)),
-        }
+        let admitted = self.admit(kind, regions, name)?;
+        Ok(self.make_admitted(admitted))
     }
 }

@@ -6,10 +6,7 @@ use std::test::Fail;
 
 // Whether the call was refused as Dangling.
 fn dangles(answer: Result<(), Refusal>) -> bool {
-    match answer {
-        Ok(()) => false,
-        Err(e) => e == Refusal::Dangling,
-    }
+    answer.err() == Some(Refusal::Dangling)
 }
 
 // A handle whose version was never given.
@@ -40,7 +37,11 @@ fn a_stale_handle_is_refused_by_every_link_of_operations(rt: HostRuntime) -> Res
 fn a_stale_handle_is_refused_by_every_link_of_blocks(rt: HostRuntime) -> Result<(), Fail> {
     let mut context = Context::new(rt.alloc())?;
     let block = context.make_block()?;
-    let region = context.make_operation(0, 1, b"")?.regions[0];
+    let region = context
+        .make_operation(0, 1, b"")?
+        .regions
+        .get(0)
+        .expect(&rt, "made with one");
     let gone = BlockPtr { handle: stale() };
     let no_region = RegionPtr { handle: stale() };
     let front = dangles(context.insert_block_at_front(gone, region));
@@ -50,14 +51,6 @@ fn a_stale_handle_is_refused_by_every_link_of_blocks(rt: HostRuntime) -> Result<
     let out = dangles(context.unlink_block(gone));
     assert!(rt; front & back & before & after & out);
     Ok(())
-}
-
-// Whether the node is this one.
-fn is_op(given: Option<OpPtr>, op: OpPtr) -> bool {
-    match given {
-        Some(o) => o == op,
-        None => false,
-    }
 }
 
 // A block with three operations.
@@ -84,9 +77,9 @@ fn an_iterator_gives_each_node_once_from_either_end(rt: HostRuntime) -> Result<(
     let mut context = Context::new(rt.alloc())?;
     let Three { block, a, b, c } = make_three(&mut context)?;
     let mut nodes = context.iter_ops(block)?;
-    let first = is_op(nodes.next(), a);
-    let last = is_op(nodes.next_back(), c);
-    let middle = is_op(nodes.next(), b);
+    let first = nodes.next() == Some(a);
+    let last = nodes.next_back() == Some(c);
+    let middle = nodes.next() == Some(b);
     assert!(rt; first & last & middle);
     assert!(rt; nodes.next_back().is_none() & nodes.next().is_none());
     Ok(())
@@ -99,8 +92,29 @@ fn an_unlinked_operation_is_no_child(rt: HostRuntime) -> Result<(), Fail> {
     context.unlink_op(b)?;
     assert!(rt; !context.is_op_linked(b)?);
     let mut nodes = context.iter_ops(block)?;
-    let last = is_op(nodes.next_back(), c);
-    let first = is_op(nodes.next_back(), a);
+    let last = nodes.next_back() == Some(c);
+    let first = nodes.next_back() == Some(a);
     assert!(rt; last & first & nodes.next_back().is_none());
+    Ok(())
+}
+
+#[test]
+fn a_loop_comes_to_each_operation(rt: HostRuntime) -> Result<(), Fail> {
+    let mut context = Context::new(rt.alloc())?;
+    let Three { block, a, b, c } = make_three(&mut context)?;
+    let mut wanted = Some(a);
+    for op in context.iter_ops(block)? {
+        assert!(rt; wanted == Some(op));
+        wanted = if op == a {
+            Some(b)
+        } else if op == b {
+            Some(c)
+        } else {
+            None
+        };
+    }
+    assert!(rt; wanted.is_none());
+    assert!(rt; context.iter_ops(block)?.rev().last() == Some(a));
+    assert!(rt; context.iter_ops(block)?.any(|op| op == b));
     Ok(())
 }

@@ -11,12 +11,9 @@ pub fn unlink_first(context: &mut Context, block: BlockPtr) -> Result<Option<OpP
     ensures { FirstTaken context.old block result context.new }
 {
     let mut operations = context.iter_ops(block)?;
-    let first = operations.next();
-    match first {
-        None => Ok(None),
-        Some(op) => match context.unlink_op(op) {
-            Err(refusal) => Err(refusal),
-            Ok(()) => Ok(first),
-        },
-    }
+    let Some(op) = operations.next() else {
+        return Ok(None);
+    };
+    context.unlink_op(op)?;
+    Ok(Some(op))
 }

@@ -1,9 +1,15 @@
 use Rattle.std.proofs.Common.{refl}
-use Rattle.ir.proofs.Numbering.{block_linked_held, numbers_held, same_context}
+use Rattle.forest.specs.Forests.{model}
+use Rattle.forest.specs.Linkings.{BlockLinked, link_block_rows}
+use Rattle.ir.specs.Linkings.{BlockInserted}
+use Rattle.ir.specs.Stores.{nodes}
+use Rattle.ir.proofs.Numbering.{answered, block_linked_held, numbers_held}
 use Rattle.ir.proofs.context.Context.insert_block.Goals as goal
 
 pub invariant_of-self : goal.invariant_of-self
 invariant_of-self c = record { numbers = ∣ block_linked_held c.args.self.now.forest c.link_block.new.self _ (numbers_held _ _ c.args.self.now.numbers) c.args.block c.args.spot c.link_block.result c.link_block.ensures ∣₁ }
 
-pub returns-in-Err : goal.returns-in-Err
-returns-in-Err c = (c.in-Err.ensures.0, same_context c.args.self.now _ c.in-Err.ensures.1 refl)
+pub returns : goal.returns
+returns c =
+    let s = c.args.self.now in
+    answered (link_block_rows (nodes s) c.args.block c.args.spot) (λ _ u. BlockLinked (nodes s) c.args.block c.args.spot (model u)) (λ _ u. BlockInserted s c.args.block c.args.spot u) s _ refl (λ x e. record { linked = e; held = refl }) c.link_block.result c.link_block.ensures
