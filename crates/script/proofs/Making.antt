@@ -1,13 +1,17 @@
 -- What a making leaves of a session, and what it answers.
-use Rattle.std.proofs.Common.{◌≡◌, ℕ, ◌+◌, ◌%◌, ◌<◌, ◌≤◌, Bool, true, false, List, ◌∷◌, length, Ok, sym, refl, ap, ◌∙◌, subst, inl, inr, arith}
+use Rattle.std.proofs.Common.{◌≡◌, ℕ, ◌+◌, ◌-◌, ◌%◌, take, drop, length-drop, ◌<◌, ◌≤◌, Bool, true, false, List, [], ◌∷◌, length, Some, None, Option, MatchOption, Ok, sym, refl, ap, ◌∙◌, subst, inl, inr, arith}
+use Rattle.std.proofs.lemmas.List.{take_all}
 use Rattle.result.specs.declared.refusal.Refusal.{Refusal}
 use Rattle.std.specs.Option.{option_to_list}
+use Rattle.records.specs.declared.handles.BlockPtr.{BlockPtr}
+use Rattle.records.specs.declared.handles.RegionPtr.{RegionPtr}
 use Rattle.records.specs.declared.making.MadeOperation.{MadeOperation}
 use Rattle.records.specs.Makings.{body_of}
 use Rattle.records.specs.Models.{Model}
-use Rattle.records.specs.Shapes.{Misshapen, worth}
+use Rattle.records.specs.Shapes.{worth}
+use Rattle.records.proofs.Regions.{ptrs_long}
 use Rattle.ir.specs.declared.context.Context.{Context}
-use Rattle.ir.specs.Calls.{given, MakeOperationCall}
+use Rattle.ir.specs.Calls.{MakeOperationCall}
 use Rattle.ir.specs.Stores.{nodes}
 use Rattle.script.specs.declared.node.Node.{Node}
 use Rattle.script.specs.declared.node.Close.{Close}
@@ -15,13 +19,8 @@ use Rattle.script.specs.declared.session.Session.{Session}
 use Rattle.script.specs.Prints.{Answer, refused, done}
 use Rattle.script.specs.declared.tag.Tag.TheVariants.{MakeOperation}
 use Rattle.script.specs.Makes.{kind_in, regions_in, name_in, operation_making, NumbersOut, OperationFieldMade}
-use Rattle.script.specs.Sessions.{next_operation, next_block, next_region}
+use Rattle.script.specs.Sessions.{next_block, next_region}
 use Rattle.script.specs.Runs.{Answers, OperationRun, TagRun}
-
--- a session whose store is as it was is as it was
-pub store_back : (s : Session) (x : Context) → x ≡ s.context
-    → ◌≡◌ {A = Session} (record { context = x; operations = s.operations; blocks = s.blocks; regions = s.regions }) s
-store_back s x is = ap (λ (y : Context). record { context = y; operations = s.operations; blocks = s.blocks; regions = s.regions }) is
 
 -- a row on top whose condition does not hold changes nothing
 pub below : (row : Refusal × Type 0) (rows : List (Refusal × Type 0)) (does : List Node → Close → Session → Type 0) (s : Session) (a : Answer) (t : Session)
@@ -29,12 +28,12 @@ pub below : (row : Refusal × Type 0) (rows : List (Refusal × Type 0)) (does : 
 below row rows does s (refused e) t n h = (inr (n, h.0), h.1)
 below row rows does s (done nodes close) t n h = ((n, h.0), h.1)
 
--- a value that is long enough, however its name is written, is run by its parts
-pub long_enough : (s : Session) (value name : List ℕ) (a : Answer) (t : Session) → 2 ≤ length value → name ≡ name_in value
-    → OperationRun s (kind_in value) (regions_in value) name a t → TagRun s MakeOperation value a t
-long_enough s value name a t long is h =
+-- a value that is long enough is run by its parts: its kind, the number of its regions, and the rest of its bytes
+pub long_enough : (s : Session) (value : List ℕ) (a : Answer) (t : Session) → 2 ≤ length value
+    → OperationRun s (kind_in value) (regions_in value) (take (length value - 2) (drop 2 value)) a t → TagRun s MakeOperation value a t
+long_enough s value a t long h =
     below _ (operation_making s (kind_in value) (regions_in value) (name_in value)) (OperationFieldMade s (kind_in value) (regions_in value) (name_in value)) s a t (λ short. omega arith)
-    (subst (λ (n : List ℕ). OperationRun s (kind_in value) (regions_in value) n a t) is h)
+    (subst (λ (n : List ℕ). OperationRun s (kind_in value) (regions_in value) n a t) (take_all (length value - 2) (drop 2 value) (simp length-drop (omega arith))) h)
 
 -- an odd kind is a table's
 odd : (t s x : Bool) → (worth 1 t + worth 2 s + worth 4 x) % 2 ≡ worth 1 t
@@ -52,26 +51,33 @@ bodies : (table : Bool) (m : Model) → length (option_to_list (body_of table m)
 bodies true m = refl
 bodies false m = refl
 
--- there are numbers for all that was made with an operation
-pub record Left (s : Session) (made : MadeOperation) : Type 0 where
-  pub few : made.count ≤ 4
-  pub operation : next_operation s < 512
-  pub body : next_block s + length (option_to_list made.body) ≤ 512
-  pub own_regions : next_region s + made.count ≤ 512
+-- a handle that may be there, as a slice of it
+as_many : {T : Type 0} (o : Option T) (xs : List T) → MatchOption o (xs ≡ []) (λ x. xs ≡ x ∷ []) → length xs ≡ length (option_to_list o)
+as_many None xs is = ap length is
+as_many (Some x) xs is = ap length is
 
-pub numbers_left : (s : Session) (kind regs : ℕ) (name : List ℕ) (made : MadeOperation) (t : Context) → (NumbersOut s kind regs name → ⊥)
-    → MakeOperationCall s.context kind regs name (Ok made) t → Left s made
-numbers_left s kind regs name made t room answered =
-    let shaped : Misshapen kind regs (given name) → ⊥ = answered.0.0 in
+-- there is a number for the body that was made with an operation
+pub body_left : (s : Session) (kind regs : ℕ) (name : List ℕ) (made : MadeOperation) (t : Context) (body : List BlockPtr)
+    → (NumbersOut s kind regs name → ⊥) → MakeOperationCall s.context kind regs name (Ok made) t
+    → MatchOption made.body (body ≡ []) (λ b. body ≡ b ∷ [])
+    → next_block s + length body ≤ 512
+body_left s kind regs name made t body room answered is =
     let o = answered.1 in
-    let count : made.count ≡ regs = ap (λ (m : MadeOperation). m.count) o.answer in
-    let few : 4 < regs → ⊥ = λ h. shaped (inr (inl h)) in
-    let body : length (option_to_list made.body) ≡ kind % 2 =
+    let many : length (option_to_list made.body) ≡ kind % 2 =
     ap (λ (m : MadeOperation). length (option_to_list m.body)) o.answer
     ∙ bodies o.is.table (nodes s.context)
     ∙ sym (odd o.is.table o.is.symbol o.is.terminator)
     ∙ ap (λ n. n % 2) o.sum in
-    let ops : 512 < next_operation s + 1 → ⊥ = λ h. room (shaped, inl h) in
-    let blocks : 512 < next_block s + kind % 2 → ⊥ = λ h. room (shaped, inr (inl h)) in
-    let regions : 512 < next_region s + regs → ⊥ = λ h. room (shaped, inr (inr h)) in
-    record { few = omega arith; operation = omega arith; body = omega arith; own_regions = omega arith }
+    let blocks : 512 < next_block s + kind % 2 → ⊥ = λ h. room (answered.0.0, inr (inl h)) in
+    omega (arith, as_many made.body body is)
+
+-- there are numbers for the regions that were made with an operation
+pub regions_left : (s : Session) (kind regs : ℕ) (name : List ℕ) (made : MadeOperation) (t : Context) (own : List RegionPtr)
+    → (NumbersOut s kind regs name → ⊥) → MakeOperationCall s.context kind regs name (Ok made) t → own ≡ made.regions
+    → next_region s + length own ≤ 512
+regions_left s kind regs name made t own room answered is =
+    let o = answered.1 in
+    let many : length made.regions ≡ regs = ap (λ (m : MadeOperation). length m.regions) o.answer ∙ ptrs_long _ _ _ regs in
+    let left : 512 < next_region s + regs → ⊥ = λ h. room (answered.0.0, inr (inr h)) in
+    let same : length own ≡ length made.regions = ap length is in
+    omega arith

@@ -1,5 +1,5 @@
 -- The line call has one answer.
-use Rattle.std.proofs.Common.{◌≡◌, ℕ, ◌<◌, List, [], ◌∷◌, ◌++◌, length, take, drop, sym, refl, ap, ◌∙◌, subst, inl, inr, arith}
+use Rattle.std.proofs.Common.{◌≡◌, ℕ, ◌<◌, List, [], ◌∷◌, ◌++◌, length, drop, sym, refl, ap, ◌∙◌, subst, inl, inr, arith}
 use Rattle.std.specs.Option.{option_to_list}
 use Rattle.result.specs.declared.refusal.Refusal.{Refusal}
 use Rattle.result.proofs.Rows.{no_row, one_row}
@@ -65,7 +65,7 @@ one_made s kind regs name ns ms c d t u h k =
 shows : Session → MadeOperation → List Node
 shows s m =
     nodes_from Operation (next_operation s) 1
-    ++ (nodes_from Region (next_region s) m.count ++ nodes_from Block (next_block s) (length (option_to_list m.body)))
+    ++ (nodes_from Region (next_region s) (length m.regions) ++ nodes_from Block (next_block s) (length (option_to_list m.body)))
 
 operation_once : (s : Session) (kind regs : ℕ) (name : List ℕ) (ns ms : List Node) (c d : Close) (t u : Session)
     → OperationFieldMade s kind regs name ns c t → OperationFieldMade s kind regs name ms d u → One (done ns c) t (done ms d) u
@@ -76,7 +76,7 @@ operation_once s kind regs name ns ms c d t u h k =
       answers = same_done ns ms c d (h.numbered.shown ∙ ap (shows s) same ∙ sym k.numbered.shown) (h.closed ∙ sym k.closed);
       operations_too = h.numbered.operation ∙ ap (λ (m : MadeOperation). operations s ++ (m.operation ∷ [])) same ∙ sym k.numbered.operation;
       blocks_too = h.numbered.body ∙ ap (λ (m : MadeOperation). blocks s ++ option_to_list m.body) same ∙ sym k.numbered.body;
-      regions_too = h.numbered.own_regions ∙ ap (λ (m : MadeOperation). regions s ++ take m.count m.regions) same ∙ sym k.numbered.own_regions;
+      regions_too = h.numbered.own_regions ∙ ap (λ (m : MadeOperation). regions s ++ m.regions) same ∙ sym k.numbered.own_regions;
     }
 
 block_once : (s : Session) (ns ms : List Node) (c d : Close) (t u : Session)

@@ -1,5 +1,6 @@
 pub mod Fields
 pub mod Prints
+pub mod Printers
 pub mod Sessions
 pub mod Tags
 pub mod Numbers

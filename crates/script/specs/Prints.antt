@@ -49,8 +49,9 @@ pub record Lined (before : List ℕ) (place : ℕ) (answer : Answer) (size : ℕ
   pub len : size ≡ length (line_bytes place answer)
   pub bytes : after ≡ line_bytes place answer ++ drop size before
 
--- bs stands from the place at to the place next; what stood before it and beyond it stays
+-- bs stands from the place at to the place next; what stood before it and beyond it stays, and so does the buffer's size
 pub record Printed (before : List ℕ) (at : ℕ) (bs : List ℕ) (after : List ℕ) (next : ℕ) : Type 0 where
   pub place : next ≡ at + length bs
   pub front : take next after ≡ take at before ++ bs
   pub beyond : (k : ℕ) → next ≤ k → drop k after ≡ drop k before
+  pub size : length after ≡ length before

@@ -1,12 +1,11 @@
 -- What the line call does.
-use Rattle.std.specs.Prelude.{◌≡◌, ℕ, ◌<◌, ◌≤◌, ◌⊎◌, List, length, take, Some, None, Ok, Err, Option, Result}
+use Rattle.std.specs.Prelude.{◌≡◌, ℕ, ◌<◌, ◌≤◌, ◌⊎◌, List, length, Some, None, Ok, Err, Option, Result}
 use Rattle.result.specs.declared.refusal.Refusal.{Refusal}
 use Rattle.result.specs.declared.refusal.Refusal.TheVariants as refusal
 use Rattle.result.specs.Rows.{Uppermost, NoRow}
 use Rattle.script.specs.declared.node.Node.{Node}
 use Rattle.script.specs.declared.node.Close.{Close}
 use Rattle.script.specs.declared.session.Session.{Session}
-use Rattle.script.specs.declared.shown.Shown.{Shown}
 use Rattle.script.specs.declared.tag.Tag.{Tag}
 use Rattle.script.specs.declared.tag.Tag.TheVariants.{MakeOperation, MakeBlock}
 use Rattle.script.specs.declared.line.Line.{Line}
@@ -23,8 +22,8 @@ Answers rows does s (done nodes close) t = NoRow rows × does nodes close t
 Answers rows does s (refused e) t = Uppermost rows e × (t ≡ s)
 
 -- what the code answers, with the nodes that it put into the list
-abbrev pub answer_of : List Node → Result Shown Refusal → Answer
-answer_of nodes (Ok x) = done (take x.count nodes) x.close
+abbrev pub answer_of : List Node → Result Close Refusal → Answer
+answer_of nodes (Ok close) = done nodes close
 answer_of nodes (Err e) = refused e
 
 -- an operation of a kind, with so many regions and a name, is made

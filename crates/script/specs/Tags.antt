@@ -1,5 +1,7 @@
 -- The tags of fields.
-use Rattle.std.specs.Prelude.{ℕ, ◌≢◌}
+use Rattle.std.specs.Prelude.{◌≡◌, ℕ, Ok, Err, Result, ◌≢◌}
+use Rattle.result.specs.declared.refusal.Refusal.{Refusal}
+use Rattle.result.specs.declared.refusal.Refusal.TheVariants.{UnknownTag}
 use Rattle.script.specs.declared.tag.Tag.{Tag}
 use Rattle.script.specs.declared.tag.Tag.TheVariants.{MakeOperation, MakeBlock}
 
@@ -11,3 +13,8 @@ code MakeBlock = 2
 -- the byte is no tag's
 abbrev pub Unlisted : ℕ → Type 0
 Unlisted b = (b ≢ 1) × (b ≢ 2)
+
+-- the tag that has a byte is given, or the byte is no tag's, and that is the refusal
+abbrev pub TagGiven : ℕ → Result Tag Refusal → Type 0
+TagGiven b (Ok t) = code t ≡ b
+TagGiven b (Err e) = Unlisted b × (e ≡ UnknownTag)

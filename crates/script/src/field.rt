@@ -1,4 +1,6 @@
 // One field of a script: a tag byte, a two-byte length, high byte first, and a value.
+// Kept: a script and a place in it as parameters, since by a rule of the project the line call is lent both; and the
+// tag is a byte here, since a field that is cut is refused before an unknown tag is.
 ghost use Rattle.std.specs.Result.{MatchResult};
 ghost use Rattle.script.specs.Fields.{FieldCutOff, Stands};
 
@@ -18,18 +20,14 @@ pub fn read_field(script: &[u8], place: usize) -> Result<Field<'_>, Refusal>
         (λ f. Stands script.now place f.tag f.value.now f.next)
         (λ e. FieldCutOff script.now place e) }
 {
-    if place > script.len() || script.len() - place < 3 {
+    let Some([tag, high, low, rest @ ..]) = script.get(place..) else {
         return Err(Refusal::ScriptCut);
-    }
-    let start = place + 3;
-    let size = usize::from(script[place + 1]) * 256 + usize::from(script[place + 2]);
-    if script.len() - start < size {
-        return Err(Refusal::ScriptCut);
-    }
-    let next = start + size;
+    };
+    let size = usize::from(u16::from_be_bytes([*high, *low]));
+    let value = rest.get(..size).ok_or(Refusal::ScriptCut)?;
     Ok(Field {
-        tag: script[place],
-        value: &script[start..next],
-        next,
+        tag: *tag,
+        value,
+        next: place + 3 + size,
     })
 }

@@ -2,17 +2,16 @@
 #![tactic(auto)]
 
 mod field;
-mod give;
 mod laws;
 mod line;
 mod make;
 mod node;
+mod node_ptr;
 mod numbering;
 mod numbers;
 mod print;
 mod run;
 mod session;
-mod shown;
 mod tag;
 
 pub use field::{Field, read_field};

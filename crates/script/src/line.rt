@@ -1,16 +1,16 @@
 // The line call: runs the field at a place of a script, and prints its line.
+// Kept: a script and a place in it as parameters, since by a rule of the project the line call is lent both.
 ghost use Rattle.std.specs.Prelude.{◌≡◌};
-ghost use Rattle.script.specs.Runs.{Ran, Onward, length_of, next_of, refusal_of};
+ghost use Rattle.script.specs.Runs.{Ran, Onward, FieldRun, answer_of, length_of, next_of, refusal_of};
 
 use crate::field::read_field;
-use crate::node::Node;
-use crate::print::{put_done, put_refused};
-use crate::run::run;
+use crate::node::{Close, Nodes};
+use crate::print::{print_done, print_refused};
 use crate::session::Session;
 use result::Refusal;
 
 // The answer of the line call.
-#[derive(Clone, Copy, Drop)]
+#[derive(Clone, Copy, Debug, PartialEq, Eq, Drop)]
 pub enum Line {
     // The script has over 4,096 bytes, the place lies past its end, or the buffer has under 8,192 bytes: refused, nothing is
     // printed, and the place stays.
@@ -21,6 +21,7 @@ pub enum Line {
     Printed { length: usize, next: usize },
 }
 
+// Kept: one match for each question: each tells another part of the answer, and one text for them is no plainer.
 impl Line {
     // The refusal that this answer is, if it is one.
     pub fn refusal(self) -> Option<Refusal>
@@ -28,8 +29,7 @@ impl Line {
     {
         match self {
             Line::Bounds => Some(Refusal::Bounds),
-            Line::End => None,
-            Line::Printed { .. } => None,
+            Line::End | Line::Printed { .. } => None,
         }
     }
 
@@ -38,8 +38,7 @@ impl Line {
         ensures { result ≡ length_of self }
     {
         match self {
-            Line::Bounds => 0,
-            Line::End => 0,
+            Line::Bounds | Line::End => 0,
             Line::Printed { length, .. } => length,
         }
     }
@@ -49,8 +48,7 @@ impl Line {
         ensures { result ≡ next_of place self }
     {
         match self {
-            Line::Bounds => place,
-            Line::End => place,
+            Line::Bounds | Line::End => place,
             Line::Printed { next, .. } => next,
         }
     }
@@ -67,33 +65,30 @@ pub fn read_line(session: &mut Session, script: &[u8], place: usize, out: &mut [
     if place == script.len() {
         return Line::End;
     }
-    match read_field(script, place) {
-        Err(refusal) => {
-            let length = put_refused(out, place as u16, refusal);
-            return Line::Printed {
-                length,
-                next: script.len(),
-            };
-        }
-        Ok(field) => {
-            let mut nodes = [Node::Operation(0); 1024];
-            match run(session, field.tag, field.value, &mut nodes) {
-                Err(refusal) => {
-                    let length = put_refused(out, place as u16, refusal);
-                    return Line::Printed {
-                        length,
-                        next: field.next,
-                    };
-                }
-                Ok(shown) => {
-                    let count = shown.count;
-                    let length = put_done(out, place as u16, &nodes[0..count], shown.close);
-                    return Line::Printed {
-                        length,
-                        next: field.next,
-                    };
-                }
-            }
+    let mut nodes = Nodes::new();
+    let (answer, next) = session.run_field(script, place, &mut nodes);
+    let length = match answer {
+        Ok(close) => print_done(out, place as u16, nodes.as_slice(), close),
+        Err(refusal) => print_refused(out, place as u16, refusal),
+    };
+    Line::Printed { length, next }
+}
+
+impl Session {
+    // Runs the field at a place, and lists the nodes to show. Says what closes the line or why the field is refused, and where
+    // to go on.
+    // Kept: an answer with the next place beside it, since a refused field has one too.
+    fn run_field(
+        &mut self,
+        script: &[u8],
+        place: usize,
+        nodes: &mut Nodes,
+    ) -> (Result<Close, Refusal>, usize)
+        ensures { FieldRun self.old script.now place (answer_of nodes.new.items result.0) result.1 self.new }
+    {
+        match read_field(script, place) {
+            Ok(field) => (self.run(field.tag, field.value, nodes), field.next),
+            Err(refusal) => (Err(refusal), script.len()),
         }
     }
 }

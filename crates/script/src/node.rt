@@ -1,4 +1,8 @@
 // A node as a line shows it, and what may stand after the nodes.
+ghost use Rattle.std.specs.Prelude.{◌≡◌};
+ghost use Rattle.script.specs.declared.node.Node.TheVariants.{Operation};
+
+use arrayvec::ArrayVec;
 
 // A node's kind and its number: nodes are numbered per kind from 0.
 #[derive(Clone, Copy, Drop)]
@@ -7,6 +11,20 @@ pub enum Node {
     Block(u16),
     Region(u16),
 }
+
+// What lies in the unused places of a list of nodes.
+impl Default for Node {
+    ghost is_default = { λ node. node ≡ Operation 0 };
+
+    fn default() -> Node {
+        Node::Operation(0)
+    }
+}
+
+// The nodes that a line shows, in order: at most 1,024.
+// Kept: the list is lent to what fills it, beside the session, since given back by value at each step its 4,096 bytes took five times
+// the instructions of a whole line.
+pub(crate) type Nodes = ArrayVec<Node, 1024>;
 
 // What stands after the nodes of a line.
 #[derive(Clone, Copy, Drop)]

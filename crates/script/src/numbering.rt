@@ -1,31 +1,38 @@
 // How nodes get their numbers, and how a session starts.
-ghost use Rattle.std.specs.Prelude.{◌≡◌, ◌+◌, ◌<◌, ◌≤◌, [], ◌∷◌, ◌++◌, IfOk, vec_len, MatchBool};
-ghost use Rattle.script.specs.Sessions.{Started};
+ghost use Rattle.std.specs.Prelude.{◌≡◌, ◌+◌, ◌<◌, ◌≤◌, [], ◌∷◌, ◌++◌, length, IfOk, vec_len, MatchBool};
+ghost use Rattle.arrayvec.specs.ArrayVec.{array_vec_len};
+ghost use Rattle.script.specs.Makes.{PastLast};
+ghost use Rattle.script.specs.Numbers.{Numbered, AllNumbered};
+ghost use Rattle.script.specs.Sessions.{Started, next_operation, next_block, next_region};
 
+use crate::node::Nodes;
+use crate::node_ptr::NodePtr;
 use crate::numbers::Numbers;
 use crate::session::Session;
-use ir::Context;
+use ir::{BlockPtr, Context, OpPtr, RegionPtr};
 use std::alloc::{AllocError, Global};
+
+// How many nodes of one kind get numbers.
+const MOST: usize = 512;
 
 impl<T> Numbers<T> {
     // No node is numbered yet.
     pub(crate) fn new(heap: Global) -> Result<Numbers<T>, AllocError>
         ensures { IfOk result (λ n. n.handles.items ≡ []) }
     {
-        let handles = Vec::with_capacity(heap, 512)?;
+        let handles = Vec::with_capacity(heap, MOST)?;
         Ok(Numbers { handles })
     }
 
     // Whether there are numbers for so many nodes more.
-    pub(crate) fn has(&self, more: usize) -> bool
-        requires { more ≤ 512 }
+    fn has(&self, more: usize) -> bool
         ensures { MatchBool result (vec_len self.now.handles + more ≤ 512) (512 < vec_len self.now.handles + more) }
     {
-        self.handles.len() + more <= 512
+        more <= MOST - self.handles.len()
     }
 
     // Gives the next number to a node.
-    pub(crate) fn give(&mut self, handle: T) -> u16
+    fn give(&mut self, handle: T) -> u16
         requires { vec_len self.old.handles < 512 }
         ensures value { result ≡ vec_len self.old.handles }
         ensures items { self.new.handles.items ≡ self.old.handles.items ++ handle ∷ [] }
@@ -34,6 +41,20 @@ impl<T> Numbers<T> {
         let number = self.handles.len() as u16;
         self.handles.push_reserved(handle);
         number
+    }
+}
+
+impl<T: NodePtr> Numbers<T> {
+    // Gives the next numbers to nodes, in order, and lists each behind those that are listed.
+    fn number(&mut self, made: &[T], nodes: &mut Nodes)
+        requires few { vec_len self.old.handles + length made.now ≤ 512 }
+        requires room { array_vec_len nodes.old + length made.now ≤ 1024 }
+        ensures { Numbered T.node made.now self.old self.new nodes.old.items nodes.new.items }
+    {
+        'each: for handle in made {
+            let number = self.give(*handle);
+            nodes.push(T::node(number));
+        }
     }
 }
 
@@ -52,5 +73,33 @@ impl Session {
             blocks,
             regions,
         })
+    }
+
+    // Whether there are numbers for so many nodes more of each kind.
+    pub(crate) fn has_numbers(&self, operations: usize, blocks: usize, regions: usize) -> bool
+        ensures { MatchBool result (PastLast self.now operations blocks regions → ⊥) (PastLast self.now operations blocks regions) }
+    {
+        self.operations.has(operations) && self.blocks.has(blocks) && self.regions.has(regions)
+    }
+
+    // Numbers the nodes that a field made, and lists these alone: operations, then regions, then blocks.
+    pub(crate) fn number(
+        &mut self,
+        operations: &[OpPtr],
+        regions: &[RegionPtr],
+        blocks: &[BlockPtr],
+        nodes: &mut Nodes,
+    )
+        requires operations { next_operation self.old + length operations.now ≤ 512 }
+        requires regions { next_region self.old + length regions.now ≤ 512 }
+        requires blocks { next_block self.old + length blocks.now ≤ 512 }
+        requires few { length operations.now + length regions.now + length blocks.now ≤ 1024 }
+        ensures store { self.new.context ≡ self.old.context }
+        ensures numbered { AllNumbered self.old operations.now regions.now blocks.now nodes.new.items self.new }
+    {
+        nodes.clear();
+        self.operations.number(operations, nodes);
+        self.regions.number(regions, nodes);
+        self.blocks.number(blocks, nodes);
     }
 }

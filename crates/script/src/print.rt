@@ -1,123 +1,117 @@
-// Writes words into a lent buffer. Each function takes the place to write at, and returns the place after.
-ghost use Rattle.std.specs.Prelude.{◌+◌, ◌*◌, ◌<◌, ◌≤◌, [], ◌∷◌, map, length, decimal};
-ghost use Rattle.script.specs.Prints.{Printed, node_word, close_words, spaced, Lined, refused, done};
+// Prints lines.
+ghost use Rattle.std.specs.Prelude.{◌≡◌, ◌+◌, ◌*◌, ◌≤◌, ◌∷◌, map, length, codes, decimal};
+ghost use Rattle.script.specs.Prints.{node_word, close_words, spaced, Lined, refused, done};
+ghost use Rattle.script.specs.Printers.{Prints, HasRoom};
 
 use crate::node::{Close, Node};
+use itoa::Buffer;
 use result::Refusal;
 
-// One byte.
-fn put(out: &mut [u8], at: usize, byte: u8) -> usize
-    requires { at < length out.old }
-    ensures { Printed out.old at (byte ∷ []) out.new result }
-{
-    out[at] = byte;
-    at + 1
+// The line that is being printed at the start of a lent buffer, and where its next word goes.
+// Kept: words are put by methods and not by `Display` and `write!`, since by a rule of the project the line call does not fail, and what
+// `write!` promises allows an error.
+#[derive(Drop)]
+struct Printer<'a> {
+    out: &'a mut [u8],
+    at: usize,
 }
 
-// The bytes of a text.
-fn put_text(out: &mut [u8], at: usize, text: &[u8]) -> usize
-    requires { at + length text.now ≤ length out.old }
-    ensures { Printed out.old at text.now out.new result }
-{
-    let end = at + text.len();
-    out[at..end].copy_from_slice(text);
-    end
-}
-
-// The decimal digits of a number.
-fn put_digits(out: &mut [u8], at: usize, n: u16) -> usize
-    requires { at + length (decimal n) ≤ length out.old }
-    ensures { Printed out.old at (decimal n) out.new result }
-{
-    if n < 10 {
-        return put(out, at, 48 + n as u8);
+impl<'a> Printer<'a> {
+    // Nothing is printed yet.
+    fn new(out: &'a mut [u8]) -> Printer<'a>
+        ensures same_reference { result.out.ghost_name ≡ out.entry.ghost_name }
+        ensures buffer { result.out.now ≡ out.old }
+        ensures start { result.at ≡ 0 }
+    {
+        Printer { out, at: 0 }
     }
-    let next = put_digits(out, at, n / 10);
-    put(out, next, 48 + (n % 10) as u8)
-}
 
-// The decimal digits of a number: at most five bytes.
-fn put_number(out: &mut [u8], at: usize, n: u16) -> usize
-    requires { at + 5 ≤ length out.old }
-    ensures wrote { Printed out.old at (decimal n) out.new result }
-    ensures room { result ≤ at + 5 }
-{
-    put_digits(out, at, n)
-}
-
-// A space, a letter and a number.
-fn put_numbered(out: &mut [u8], at: usize, letter: u8, n: u16) -> usize
-    requires { at + 7 ≤ length out.old }
-    ensures wrote { Printed out.old at (32 ∷ letter ∷ decimal n) out.new result }
-    ensures room { result ≤ at + 7 }
-{
-    let after_space = put(out, at, b' ');
-    let after_letter = put(out, after_space, letter);
-    put_number(out, after_letter, n)
-}
-
-// A space and a node.
-fn put_node(out: &mut [u8], at: usize, node: Node) -> usize
-    requires { at + 7 ≤ length out.old }
-    ensures wrote { Printed out.old at (32 ∷ node_word node) out.new result }
-    ensures room { result ≤ at + 7 }
-{
-    match node {
-        Node::Operation(n) => put_numbered(out, at, b'o', n),
-        Node::Block(n) => put_numbered(out, at, b'b', n),
-        Node::Region(n) => put_numbered(out, at, b'r', n),
+    // A text.
+    fn text(&mut self, text: &str)
+        requires { HasRoom self.old (length text.now) }
+        ensures { Prints self.old text.now self.new }
+    {
+        let end = self.at + text.len();
+        self.out[self.at..end].copy_from_slice(text.as_bytes());
+        self.at = end;
     }
-}
 
-// The nodes, each after a space.
-fn put_nodes(out: &mut [u8], at: usize, nodes: &[Node]) -> usize
-    requires { at + 7 * length nodes.now ≤ length out.old }
-    ensures wrote { Printed out.old at (spaced (map node_word nodes.now)) out.new result }
-    ensures room { result ≤ at + 7 * length nodes.now }
-{
-    let mut next = at;
-    for node in nodes {
-        next = put_node(out, next, *node);
+    // The decimal digits of a number: at most five bytes.
+    fn number(&mut self, n: u16)
+        requires { HasRoom self.old 5 }
+        ensures wrote { Prints self.old (decimal n) self.new }
+        ensures room { self.new.at ≤ self.old.at + 5 }
+    {
+        self.text(Buffer::new().format(n));
     }
-    next
-}
 
-// What closes a line, after a space.
-fn put_close(out: &mut [u8], at: usize, close: Close) -> usize
-    requires { at + 6 ≤ length out.old }
-    ensures wrote { Printed out.old at (spaced (close_words close)) out.new result }
-    ensures room { result ≤ at + 6 }
-{
-    match close {
-        Close::Nothing => at,
-        Close::Absent => put_text(out, at, b" none"),
-        Close::End => put_text(out, at, b" end"),
-        Close::Break => put_text(out, at, b" break"),
+    // A space and a node.
+    fn node(&mut self, node: Node)
+        requires { HasRoom self.old 7 }
+        ensures wrote { Prints self.old (32 ∷ node_word node) self.new }
+        ensures room { self.new.at ≤ self.old.at + 7 }
+    {
+        let (letter, number) = match node {
+            Node::Operation(number) => (" o", number),
+            Node::Block(number) => (" b", number),
+            Node::Region(number) => (" r", number),
+        };
+        self.text(letter);
+        self.number(number);
+    }
+
+    // The nodes, each after a space.
+    fn nodes(&mut self, nodes: &[Node])
+        requires { HasRoom self.old (7 * length nodes.now) }
+        ensures wrote { Prints self.old (spaced (map node_word nodes.now)) self.new }
+        ensures room { self.new.at ≤ self.old.at + 7 * length nodes.now }
+    {
+        for node in nodes {
+            self.node(*node);
+        }
+    }
+
+    // What closes a line, after a space.
+    fn close(&mut self, close: Close)
+        requires { HasRoom self.old 6 }
+        ensures wrote { Prints self.old (spaced (close_words close)) self.new }
+        ensures room { self.new.at ≤ self.old.at + 6 }
+    {
+        self.text(match close {
+            Close::Nothing => "",
+            Close::Absent => " none",
+            Close::End => " end",
+            Close::Break => " break",
+        });
     }
 }
 
-// The line of a refused field.
-pub(crate) fn put_refused(out: &mut [u8], place: u16, refusal: Refusal) -> usize
+// Prints the line of a refused field, and says how long it is.
+pub(crate) fn print_refused(out: &mut [u8], place: u16, refusal: Refusal) -> usize
     requires { 8192 ≤ length out.old }
     ensures line { Lined out.old place (refused refusal) result out.new }
     ensures room { result ≤ 8192 }
 {
-    let after_place = put_number(out, 0, place);
-    let after_word = put_text(out, after_place, b" refused ");
-    let after_number = put_number(out, after_word, refusal.number() as u16);
-    put(out, after_number, b'\n')
+    let mut line = Printer::new(out);
+    line.number(place);
+    line.text(" refused ");
+    line.number(u16::from(refusal.number()));
+    line.text("\n");
+    line.at
 }
 
-// The line of a field that was done. 1,024 nodes of 7 bytes leave room for the other words.
-pub(crate) fn put_done(out: &mut [u8], place: u16, nodes: &[Node], close: Close) -> usize
+// Prints the line of a field that was done, and says how long it is. 1,024 nodes of 7 bytes leave room for the other words.
+pub(crate) fn print_done(out: &mut [u8], place: u16, nodes: &[Node], close: Close) -> usize
     requires room { 8192 ≤ length out.old }
     requires few { length nodes.now ≤ 1024 }
     ensures line { Lined out.old place (done nodes.now close) result out.new }
     ensures room { result ≤ 8192 }
 {
-    let after_place = put_number(out, 0, place);
-    let after_word = put_text(out, after_place, b" ok");
-    let after_nodes = put_nodes(out, after_word, nodes);
-    let after_close = put_close(out, after_nodes, close);
-    put(out, after_close, b'\n')
+    let mut line = Printer::new(out);
+    line.number(place);
+    line.text(" ok");
+    line.nodes(nodes);
+    line.close(close);
+    line.text("\n");
+    line.at
 }

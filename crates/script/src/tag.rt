@@ -1,6 +1,7 @@
 // What a field asks for.
-ghost use Rattle.std.specs.Prelude.{◌≡◌, MatchOption};
-ghost use Rattle.script.specs.Tags.{code, Unlisted};
+ghost use Rattle.script.specs.Tags.{TagGiven};
+
+use result::Refusal;
 
 // The tags, with their bytes.
 #[derive(Clone, Copy, Drop)]
@@ -9,13 +10,16 @@ pub(crate) enum Tag {
     MakeBlock = 2,
 }
 
-// The tag that has this byte, if one has.
-pub(crate) fn tag_of(byte: u8) -> Option<Tag>
-    ensures { MatchOption result (Unlisted byte) (λ t. code t ≡ byte) }
-{
-    match byte {
-        1 => Some(Tag::MakeOperation),
-        2 => Some(Tag::MakeBlock),
-        _ => None,
+impl TryFrom<u8> for Tag {
+    type Error = Refusal;
+
+    ghost try_from_gives = { TagGiven };
+
+    fn try_from(byte: u8) -> Result<Tag, Refusal> {
+        match byte {
+            1 => Ok(Tag::MakeOperation),
+            2 => Ok(Tag::MakeBlock),
+            _ => Err(Refusal::UnknownTag),
+        }
     }
 }

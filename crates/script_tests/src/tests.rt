@@ -18,9 +18,7 @@ fn prints(
     assert_eq!(rt; line.length(), text.len());
     assert_eq!(rt; line.next(place), next);
     assert!(rt; out.starts_with(text));
-    for byte in out.iter().skip(text.len()) {
-        assert!(rt; *byte == b'~');
-    }
+    assert!(rt; out.iter().skip(text.len()).all(|byte| *byte == b'~'));
     Ok(())
 }
 
@@ -107,11 +105,8 @@ fn out_of_bounds_prints_nothing(rt: HostRuntime) -> Result<(), Fail> {
 fn the_end_prints_nothing(rt: HostRuntime) -> Result<(), Fail> {
     let mut session = Session::new(rt.alloc())?;
     let mut out = [b'~'; 8192];
-    match read_line(&mut session, b"\x02\x00\x00", 3, &mut out) {
-        Line::End => {
-            assert!(rt; out.starts_with(b"~~"));
-            Ok(())
-        },
-        _ => Err(Fail::new("not the end")),
-    }
+    let line = read_line(&mut session, b"\x02\x00\x00", 3, &mut out);
+    assert_eq!(rt; line, Line::End);
+    assert!(rt; out.starts_with(b"~~"));
+    Ok(())
 }
