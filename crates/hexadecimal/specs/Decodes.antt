@@ -1,5 +1,5 @@
 -- What decoding does with the bytes that are there.
-use Rattle.std.specs.Prelude.{◌≡◌, ℕ, ◌+◌, ◌<◌, Bool, true, false, List, ◌∷◌, ◌++◌, Ok, Err, Option, Result}
+use Rattle.std.specs.Prelude.{◌≡◌, ℕ, ◌+◌, ◌<◌, List, ◌∷◌, Ok, Err, Result}
 use Rattle.std.specs.Option.{option_to_list}
 use Rattle.hexadecimal.specs.declared.state.State.{State}
 use Rattle.hexadecimal.specs.declared.state.State.TheVariants.{Between, Comment, Half}
@@ -42,8 +42,3 @@ Stepped state place byte (Err e) = Wanting {X = Step} (Err e) ⊥ × ((rest : Li
 abbrev pub ReadIn : {X : Type 0} → List ℕ → List ℕ → Result X HexError → List ℕ → Type 0
 ReadIn text old (Ok x) new = after old (decoded text) ≡ Ok new
 ReadIn text old (Err e) new = Tells (decoded text) e
-
--- a byte that may be there stands behind the old ones, or the old ones stay
-abbrev pub Put : Option ℕ → Bool → List ℕ → List ℕ → Type 0
-Put byte true old new = new ≡ old ++ option_to_list byte
-Put byte false old new = new ≡ old

@@ -1,5 +1,5 @@
 -- What a text means.
-use Rattle.std.specs.Prelude.{ℕ, ◌+◌, ◌*◌, Bool, true, false, cond, List, [], ◌∷◌, ◌++◌, Ok, Err, Result, ◌==◌}
+use Rattle.std.specs.Prelude.{ℕ, ◌+◌, ◌*◌, cond, List, [], ◌∷◌, ◌++◌, Ok, Err, Result, ◌==◌, count_by}
 use Rattle.hexadecimal.specs.declared.state.State.{State}
 use Rattle.hexadecimal.specs.declared.state.State.TheVariants.{Between, Comment, Half}
 use Rattle.hexadecimal.specs.declared.error.HexError.{HexError}
@@ -37,12 +37,6 @@ reads (Half high first) place (c ∷ cs) =
 abbrev pub decoded : List ℕ → Result (List ℕ) HexError
 decoded text = reads Between 0 text
 
--- 1 if so, else 0
-abbrev pub weigh : Bool → ℕ
-weigh true = 1
-weigh false = 0
-
 -- how many lines end in a text, each by a line feed
 abbrev pub lines_in : List ℕ → ℕ
-lines_in [] = 0
-lines_in (c ∷ cs) = weigh (c == 10) + lines_in cs
+lines_in text = count_by (λ c. c == 10) text

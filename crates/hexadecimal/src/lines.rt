@@ -6,11 +6,8 @@ ghost use Rattle.hexadecimal.specs.Texts.{lines_in};
 pub fn lines_before(text: &[u8], place: usize) -> usize
     ensures { result ≡ lines_in (take place text.now) }
 {
-    let mut lines = 0;
-    for i in 0..place.min(text.len()) {
-        if text[i] == b'\n' {
-            lines += 1;
-        }
-    }
-    lines
+    text.iter()
+        .take(place)
+        .filter(|byte| **byte == b'\n')
+        .count()
 }

@@ -1,4 +1,7 @@
 // Takes in one byte of a text.
+// Kept: a byte and its place, as `enumerate` gives them: a struct for the pair is no plainer.
+#![tactic(auto, using(crate::proofs::Reading::after_none), unfolding(crate::specs::Texts::reads))]
+
 ghost use Rattle.std.specs.Prelude.{◌<◌};
 ghost use Rattle.hexadecimal.specs.Decodes.{Stepped, Small};
 ghost use Rattle.hexadecimal.specs.declared.state.State.TheVariants.{Between, Comment, Half};
@@ -13,9 +16,9 @@ pub(crate) fn step(state: State, place: usize, byte: u8) -> Result<Step, HexErro
     ensures { Stepped state place byte result }
 {
     match state {
-        State::Between => return between(place, byte),
-        State::Comment => return comment(place, byte),
-        State::Half { high, place: first } => return half(high, first, place, byte),
+        State::Between => between(place, byte),
+        State::Comment => comment(place, byte),
+        State::Half { high, place: first } => half(high, first, place, byte),
     }
 }
 
@@ -24,19 +27,19 @@ fn between(place: usize, byte: u8) -> Result<Step, HexError>
     ensures { Stepped Between place byte result }
 {
     match classify(byte) {
-        Class::Parting => return Ok(Step {
+        Class::Parting => Ok(Step {
             next: State::Between,
             byte: None,
         }),
-        Class::Hash => return Ok(Step {
+        Class::Hash => Ok(Step {
             next: State::Comment,
             byte: None,
         }),
-        Class::Digit(high) => return Ok(Step {
+        Class::Digit(high) => Ok(Step {
             next: State::Half { high, place },
             byte: None,
         }),
-        Class::Other => return Err(HexError::NotHex { place }),
+        Class::Other => Err(HexError::NotHex { place }),
     }
 }
 
@@ -44,16 +47,12 @@ fn between(place: usize, byte: u8) -> Result<Step, HexError>
 fn comment(place: usize, byte: u8) -> Result<Step, HexError>
     ensures { Stepped Comment place byte result }
 {
-    if byte == b'\n' {
-        return Ok(Step {
-            next: State::Between,
-            byte: None,
-        });
-    }
-    return Ok(Step {
-        next: State::Comment,
-        byte: None,
-    });
+    let next = if byte == b'\n' {
+        State::Between
+    } else {
+        State::Comment
+    };
+    Ok(Step { next, byte: None })
 }
 
 // After the first digit of a pair.
@@ -62,12 +61,10 @@ fn half(high: u8, first: usize, place: usize, byte: u8) -> Result<Step, HexError
     ensures { Stepped (Half high first) place byte result }
 {
     match classify(byte) {
-        Class::Digit(low) => return Ok(Step {
+        Class::Digit(low) => Ok(Step {
             next: State::Between,
             byte: Some(high * 16 + low),
         }),
-        Class::Parting => return Err(HexError::HalfByte { place: first }),
-        Class::Hash => return Err(HexError::HalfByte { place: first }),
-        Class::Other => return Err(HexError::HalfByte { place: first }),
+        Class::Parting | Class::Hash | Class::Other => Err(HexError::HalfByte { place: first }),
     }
 }

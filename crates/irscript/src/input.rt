@@ -1,15 +1,15 @@
 // Reads the script.
-use anyhow::anyhow;
+use anyhow::{anyhow, ensure};
 use hexadecimal::{HexError, decode, lines_before};
 use std::alloc::Global;
 use std::io::Read;
 use std::{fs, io};
 
 // The most bytes of a script that are read: one more than it may have, so that a longer one is seen.
-const SCRIPT: u64 = 4097;
+const SCRIPT: u64 = 4096 + 1;
 
-// The same of a hexadecimal text, which may have 1,048,576 bytes.
-const TEXT: u64 = 1048577;
+// The most bytes that a hexadecimal text may have.
+const TEXT: u64 = 1 << 20;
 
 // The bytes of the script in a file, or on standard input.
 pub(crate) fn read_script(
@@ -20,10 +20,11 @@ pub(crate) fn read_script(
     if !hex {
         return read_bytes(rt, file, SCRIPT);
     }
-    let text = read_bytes(rt, file, TEXT)?;
-    if text.len() > 1048576 {
-        return Err(anyhow!("the text has over 1,048,576 bytes"));
-    }
+    let text = read_bytes(rt, file, TEXT + 1)?;
+    ensure!(
+        text.len() as u64 <= TEXT,
+        "the text has over 1,048,576 bytes"
+    );
     decode_text(rt.alloc(), text.as_slice())
 }
 
@@ -31,10 +32,9 @@ pub(crate) fn read_script(
 fn read_bytes(rt: &HostRuntime, file: Option<String>, limit: u64) -> anyhow::Result<Vec<u8>> {
     match file {
         None => Ok(read_all(rt.alloc(), rt.stdin(), limit)?),
-        Some(path) => match read_file(rt, path.as_str(), limit) {
-            Ok(bytes) => Ok(bytes),
-            Err(error) => Err(anyhow!(format!(in rt.alloc(); "{path}: {error}")?)),
-        },
+        Some(path) => {
+            read_file(rt, path.as_str(), limit).map_err(|error| anyhow!("{path}: {error}"))
+        }
     }
 }
 
@@ -53,16 +53,12 @@ fn read_all<R: Read + Drop>(heap: Global, source: R, limit: u64) -> io::Result<V
 // The bytes that a hexadecimal text means.
 fn decode_text(heap: Global, text: &[u8]) -> anyhow::Result<Vec<u8>> {
     let mut script = Vec::with_capacity(heap, text.len())?;
-    match decode(text, &mut script) {
-        Ok(()) => Ok(script),
-        Err(HexError::NotHex { place }) => {
+    decode(text, &mut script).map_err(|error| match error {
+        HexError::NotHex { place } | HexError::HalfByte { place } => {
             let line = lines_before(text, place).saturating_add(1);
-            Err(anyhow!(format!(in heap; "line {line}: not a hexadecimal digit")?))
+            anyhow!("line {line}: {error}")
         }
-        Err(HexError::HalfByte { place }) => {
-            let line = lines_before(text, place).saturating_add(1);
-            Err(anyhow!(format!(in heap; "line {line}: a digit alone, where two make a byte")?))
-        }
-        Err(HexError::NoMemory) => Err(anyhow!("no memory for the script")),
-    }
+        HexError::NoMemory => anyhow!("no memory for the script"),
+    })?;
+    Ok(script)
 }

@@ -1,5 +1,5 @@
 // The arguments of the program.
-use anyhow::anyhow;
+use anyhow::{bail, ensure};
 use std::env;
 
 // What --help prints.
@@ -27,17 +27,14 @@ pub(crate) fn read_task(rt: &HostRuntime) -> anyhow::Result<Task> {
     let mut hex = false;
     let mut file = None;
     for word in env::args(rt)?.skip(1) {
-        if word.as_str() == "--help" {
-            return Ok(Task::Help);
-        }
-        if word.as_str() == "--hex" {
-            hex = true;
-        } else if word.as_str().starts_with("-") {
-            return Err(anyhow!(format!(in rt.alloc(); "unknown option {word}, see --help")?));
-        } else if file.is_some() {
-            return Err(anyhow!("more than one file, see --help"));
-        } else {
-            file = Some(word);
+        match word.as_str() {
+            "--help" => return Ok(Task::Help),
+            "--hex" => hex = true,
+            option if option.starts_with("-") => bail!("unknown option {word}, see --help"),
+            _ => {
+                ensure!(file.is_none(), "more than one file, see --help");
+                file = Some(word);
+            }
         }
     }
     Ok(Task::Run { hex, file })
