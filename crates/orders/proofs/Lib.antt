@@ -1,0 +1,13 @@
+pub mod Places
+pub mod Lists
+pub mod Climbs
+pub mod Moves
+pub mod Derive
+pub mod Once
+pub mod Cut
+pub mod Orders
+pub mod Stands
+pub mod Logs
+pub mod Runs
+pub mod Whole
+pub mod Holding
