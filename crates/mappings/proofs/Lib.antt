@@ -1,0 +1,4 @@
+pub mod Counting
+pub mod Holding
+pub mod Looking
+pub mod Reading
