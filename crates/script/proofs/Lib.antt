@@ -1,4 +1,5 @@
 mod Following
 mod Making
+mod Named
 mod Once
 mod Printing

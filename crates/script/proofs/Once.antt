@@ -1,5 +1,5 @@
 -- The line call has one answer.
-use Rattle.std.proofs.Common.{◌≡◌, ℕ, ◌<◌, List, [], ◌∷◌, ◌++◌, length, drop, sym, refl, ap, ◌∙◌, subst, inl, inr, arith}
+use Rattle.std.proofs.Common.{◌≡◌, ℕ, ◌<◌, List, [], ◌∷◌, ◌++◌, length, drop, get_or, Option, Result, sym, refl, ap, ◌∙◌, subst, inl, inr, arith}
 use Rattle.std.specs.Option.{option_to_list}
 use Rattle.result.specs.declared.refusal.Refusal.{Refusal}
 use Rattle.result.proofs.Rows.{no_row, one_row}
@@ -8,13 +8,15 @@ use Rattle.records.specs.declared.handles.BlockPtr.{BlockPtr}
 use Rattle.records.specs.declared.making.MadeOperation.{MadeOperation}
 use Rattle.records.specs.Makings.{operation_made}
 use Rattle.records.proofs.Sums.{one_kind}
+use Rattle.ir.specs.declared.context.Context.{Context}
+use Rattle.ir.specs.Linkings.{InsertBlockCall, InsertOpCall, UnlinkBlockCall, UnlinkOpCall}
 use Rattle.ir.specs.Stores.{nodes}
 use Rattle.script.specs.declared.node.Node.{Node}
 use Rattle.script.specs.declared.node.Node.TheVariants.{Operation, Block, Region}
 use Rattle.script.specs.declared.node.Close.{Close}
 use Rattle.script.specs.declared.session.Session.{Session}
 use Rattle.script.specs.declared.tag.Tag.{Tag}
-use Rattle.script.specs.declared.tag.Tag.TheVariants.{MakeOperation, MakeBlock}
+use Rattle.script.specs.declared.tag.Tag.TheVariants.{MakeOperation, MakeBlock, LinkOperation, LinkBlock, UnlinkOperation, UnlinkBlock}
 use Rattle.script.specs.declared.line.Line.{Line}
 use Rattle.script.specs.declared.line.Line.TheVariants as line
 use Rattle.script.specs.Prints.{Answer, refused, done, Lined, line_bytes}
@@ -23,6 +25,7 @@ use Rattle.script.specs.Tags.{code, Unlisted}
 use Rattle.script.specs.Numbers.{nodes_from}
 use Rattle.script.specs.Sessions.{operations, blocks, regions, next_operation, next_block, next_region}
 use Rattle.script.specs.Makes.{kind_in, regions_in, name_in, operation_field_rows, block_field_rows, OperationFieldMade, BlockFieldMade}
+use Rattle.script.specs.Linkings.{Edited, operation_link, block_link, node_named, operation_link_rows, block_link_rows, operation_unlink_rows, block_unlink_rows, OperationFieldLinked, BlockFieldLinked, OperationFieldUnlinked, BlockFieldUnlinked}
 use Rattle.script.specs.Runs.{Answers, TagRun, ByteRun, FieldRun, Alike, OneLine}
 
 -- two answers to a field that are one, with the same handles under the same numbers after
@@ -90,23 +93,59 @@ block_once s ns ms c d t u h k =
       regions_too = h.regions_stay ∙ sym k.regions_stay;
     }
 
+-- an edit of links numbers and shows nothing
+edit_once : {A : Type 0} (named : Option A) (call : A → Result (Unit {0}) Refusal → Context → Type 0) (s : Session) (ns ms : List Node) (c d : Close) (t u : Session)
+    → Edited named call s ns c t → Edited named call s ms d u → One (done ns c) t (done ms d) u
+edit_once named call s ns ms c d t u h k = record {
+  answers = same_done ns ms c d (h.none_shown ∙ sym k.none_shown) (h.closed ∙ sym k.closed);
+  operations_too = h.operations_stay ∙ sym k.operations_stay;
+  blocks_too = h.blocks_stay ∙ sym k.blocks_stay;
+  regions_too = h.regions_stay ∙ sym k.regions_stay;
+}
+
 tag_once : (s : Session) (g : Tag) (v : List ℕ) (a b : Answer) (t u : Session) → TagRun s g v a t → TagRun s g v b u → One a t b u
 tag_once s MakeOperation v a b t u h k =
     one_answer (operation_field_rows s v) (OperationFieldMade s (kind_in v) (regions_in v) (name_in v)) s a b t u
     (λ ns ms c d. operation_once s (kind_in v) (regions_in v) (name_in v) ns ms c d t u) h k
 tag_once s MakeBlock v a b t u h k =
     one_answer (block_field_rows s v) (BlockFieldMade s) s a b t u (λ ns ms c d. block_once s ns ms c d t u) h k
+tag_once s LinkOperation v a b t u h k =
+    one_answer (operation_link_rows s v) (OperationFieldLinked s v) s a b t u
+    (λ ns ms c d. edit_once (operation_link s v) (λ l. InsertOpCall s.context l.0 l.1) s ns ms c d t u) h k
+tag_once s LinkBlock v a b t u h k =
+    one_answer (block_link_rows s v) (BlockFieldLinked s v) s a b t u
+    (λ ns ms c d. edit_once (block_link s v) (λ l. InsertBlockCall s.context l.0 l.1) s ns ms c d t u) h k
+tag_once s UnlinkOperation v a b t u h k =
+    one_answer (operation_unlink_rows s v) (OperationFieldUnlinked s v) s a b t u
+    (λ ns ms c d. edit_once (node_named (operations s) v) (UnlinkOpCall s.context) s ns ms c d t u) h k
+tag_once s UnlinkBlock v a b t u h k =
+    one_answer (block_unlink_rows s v) (BlockFieldUnlinked s v) s a b t u
+    (λ ns ms c d. edit_once (node_named (blocks s) v) (UnlinkBlockCall s.context) s ns ms c d t u) h k
+
+-- the tags by their bytes; no tag has the byte 0
+tags : List Tag
+tags = MakeOperation ∷ MakeOperation ∷ MakeBlock ∷ LinkOperation ∷ LinkBlock ∷ UnlinkOperation ∷ UnlinkBlock ∷ []
+
+found : (g : Tag) → get_or tags (code g) MakeOperation ≡ g
+unfolding tags
+found MakeOperation = refl
+found MakeBlock = refl
+found LinkOperation = refl
+found LinkBlock = refl
+found UnlinkOperation = refl
+found UnlinkBlock = refl
 
 -- a tag has a byte of its own, which is listed
 one_tag : (g h : Tag) → code g ≡ code h → g ≡ h
-one_tag MakeOperation MakeOperation e = refl
-one_tag MakeOperation MakeBlock e = absurd (omega arith)
-one_tag MakeBlock MakeOperation e = absurd (omega arith)
-one_tag MakeBlock MakeBlock e = refl
+one_tag g h same = sym (found g) ∙ ap (λ n. get_or tags n MakeOperation) same ∙ found h
 
 listed : (g : Tag) → Unlisted (code g) → ⊥
 listed MakeOperation h = h.0 refl
 listed MakeBlock h = h.1 refl
+listed LinkOperation h = h.2 refl
+listed LinkBlock h = h.3 refl
+listed UnlinkOperation h = h.4 refl
+listed UnlinkBlock h = h.5 refl
 
 byte_once : (s : Session) (n : ℕ) (v : List ℕ) (a b : Answer) (t u : Session) → ByteRun s n v a t → ByteRun s n v b u → One a t b u
 unfolding ByteRun

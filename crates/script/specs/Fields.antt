@@ -7,9 +7,13 @@ use Rattle.result.specs.declared.refusal.Refusal.TheVariants.{ScriptCut}
 abbrev pub tag_at : List ℕ → ℕ → ℕ
 tag_at script place = slice_index script place
 
--- the length that the field's second and third byte give, high byte first
+-- the number whose two bytes start at a place, high byte first
+abbrev pub number_at : List ℕ → ℕ → ℕ
+number_at bytes place = slice_index bytes place * 256 + slice_index bytes (place + 1)
+
+-- the length that the field's second and third byte give
 abbrev pub size_at : List ℕ → ℕ → ℕ
-size_at script place = slice_index script (place + 1) * 256 + slice_index script (place + 2)
+size_at script place = number_at script (place + 1)
 
 -- so many bytes after the first three
 abbrev pub value_at : List ℕ → ℕ → List ℕ

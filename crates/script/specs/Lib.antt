@@ -5,4 +5,5 @@ pub mod Sessions
 pub mod Tags
 pub mod Numbers
 pub mod Makes
+pub mod Linkings
 pub mod Runs

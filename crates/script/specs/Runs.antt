@@ -7,7 +7,7 @@ use Rattle.script.specs.declared.node.Node.{Node}
 use Rattle.script.specs.declared.node.Close.{Close}
 use Rattle.script.specs.declared.session.Session.{Session}
 use Rattle.script.specs.declared.tag.Tag.{Tag}
-use Rattle.script.specs.declared.tag.Tag.TheVariants.{MakeOperation, MakeBlock}
+use Rattle.script.specs.declared.tag.Tag.TheVariants.{MakeOperation, MakeBlock, LinkOperation, LinkBlock, UnlinkOperation, UnlinkBlock}
 use Rattle.script.specs.declared.line.Line.{Line}
 use Rattle.script.specs.declared.line.Line.TheVariants as line
 use Rattle.script.specs.Prints.{Answer, refused, done, Lined}
@@ -15,6 +15,7 @@ use Rattle.script.specs.Fields.{tag_at, value_at, next_at, Cut}
 use Rattle.script.specs.Sessions.{operations, blocks, regions}
 use Rattle.script.specs.Tags.{code, Unlisted}
 use Rattle.script.specs.Makes.{kind_in, regions_in, name_in, operation_making, operation_field_rows, block_field_rows, OperationFieldMade, BlockFieldMade}
+use Rattle.script.specs.Linkings.{operation_link_rows, block_link_rows, operation_unlink_rows, block_unlink_rows, OperationFieldLinked, BlockFieldLinked, OperationFieldUnlinked, BlockFieldUnlinked}
 
 -- the uppermost row whose condition holds is given, and the session stays; where no condition holds, the field is done
 abbrev pub Answers : List (Refusal × Type 0) → (List Node → Close → Session → Type 0) → Session → Answer → Session → Type 0
@@ -34,6 +35,10 @@ OperationRun s kind regs name a t = Answers (operation_making s kind regs name) 
 abbrev pub TagRun : Session → Tag → List ℕ → Answer → Session → Type 0
 TagRun s MakeOperation v a t = Answers (operation_field_rows s v) (OperationFieldMade s (kind_in v) (regions_in v) (name_in v)) s a t
 TagRun s MakeBlock v a t = Answers (block_field_rows s v) (BlockFieldMade s) s a t
+TagRun s LinkOperation v a t = Answers (operation_link_rows s v) (OperationFieldLinked s v) s a t
+TagRun s LinkBlock v a t = Answers (block_link_rows s v) (BlockFieldLinked s v) s a t
+TagRun s UnlinkOperation v a t = Answers (operation_unlink_rows s v) (OperationFieldUnlinked s v) s a t
+TagRun s UnlinkBlock v a t = Answers (block_unlink_rows s v) (BlockFieldUnlinked s v) s a t
 
 -- the byte is no tag's, and nothing is done
 pub record Unknown (s : Session) (b : ℕ) (a : Answer) (t : Session) : Type 0 where

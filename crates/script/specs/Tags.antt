@@ -3,16 +3,20 @@ use Rattle.std.specs.Prelude.{◌≡◌, ℕ, Ok, Err, Result, ◌≢◌}
 use Rattle.result.specs.declared.refusal.Refusal.{Refusal}
 use Rattle.result.specs.declared.refusal.Refusal.TheVariants.{UnknownTag}
 use Rattle.script.specs.declared.tag.Tag.{Tag}
-use Rattle.script.specs.declared.tag.Tag.TheVariants.{MakeOperation, MakeBlock}
+use Rattle.script.specs.declared.tag.Tag.TheVariants.{MakeOperation, MakeBlock, LinkOperation, LinkBlock, UnlinkOperation, UnlinkBlock}
 
 -- the byte of a tag
 abbrev pub code : Tag → ℕ
 code MakeOperation = 1
 code MakeBlock = 2
+code LinkOperation = 3
+code LinkBlock = 4
+code UnlinkOperation = 5
+code UnlinkBlock = 6
 
 -- the byte is no tag's
 abbrev pub Unlisted : ℕ → Type 0
-Unlisted b = (b ≢ 1) × (b ≢ 2)
+Unlisted b = (b ≢ 1) × (b ≢ 2) × (b ≢ 3) × (b ≢ 4) × (b ≢ 5) × (b ≢ 6)
 
 -- the tag that has a byte is given, or the byte is no tag's, and that is the refusal
 abbrev pub TagGiven : ℕ → Result Tag Refusal → Type 0

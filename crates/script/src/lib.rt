@@ -4,6 +4,8 @@
 mod field;
 mod laws;
 mod line;
+mod link;
+mod linking;
 mod make;
 mod node;
 mod node_ptr;

@@ -1,6 +1,9 @@
 // How nodes get their numbers, and how a session starts.
 ghost use Rattle.std.specs.Prelude.{◌≡◌, ◌+◌, ◌<◌, ◌≤◌, [], ◌∷◌, ◌++◌, length, IfOk, vec_len, MatchBool};
+ghost use Rattle.std.specs.List.{slice_get};
+ghost use Rattle.std.specs.Option.{ok_or};
 ghost use Rattle.arrayvec.specs.ArrayVec.{array_vec_len};
+ghost use Rattle.result.specs.declared.refusal.Refusal.TheVariants.{BadOrdinal};
 ghost use Rattle.script.specs.Makes.{PastLast};
 ghost use Rattle.script.specs.Numbers.{Numbered, AllNumbered};
 ghost use Rattle.script.specs.Sessions.{Started, next_operation, next_block, next_region};
@@ -10,6 +13,7 @@ use crate::node_ptr::NodePtr;
 use crate::numbers::Numbers;
 use crate::session::Session;
 use ir::{BlockPtr, Context, OpPtr, RegionPtr};
+use result::Refusal;
 use std::alloc::{AllocError, Global};
 
 // How many nodes of one kind get numbers.
@@ -41,6 +45,16 @@ impl<T> Numbers<T> {
         let number = self.handles.len() as u16;
         self.handles.push_reserved(handle);
         number
+    }
+}
+
+impl<T: Copy> Numbers<T> {
+    // The node that has a number, if the number was given.
+    pub(crate) fn get(&self, number: u16) -> Result<T, Refusal>
+        ensures { result ≡ ok_or (slice_get self.now.handles.items number) BadOrdinal }
+    {
+        let handle = self.handles.get(usize::from(number)).copied();
+        handle.ok_or(Refusal::BadOrdinal)
     }
 }
 

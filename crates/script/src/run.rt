@@ -29,6 +29,10 @@ impl Session {
         match tag {
             Tag::MakeOperation => self.run_make_operation(value, nodes),
             Tag::MakeBlock => self.run_make_block(value, nodes),
+            Tag::LinkOperation => self.run_link_operation(value, nodes),
+            Tag::LinkBlock => self.run_link_block(value, nodes),
+            Tag::UnlinkOperation => self.run_unlink_operation(value, nodes),
+            Tag::UnlinkBlock => self.run_unlink_block(value, nodes),
         }
     }
 }

@@ -8,6 +8,10 @@ use result::Refusal;
 pub(crate) enum Tag {
     MakeOperation = 1,
     MakeBlock = 2,
+    LinkOperation = 3,
+    LinkBlock = 4,
+    UnlinkOperation = 5,
+    UnlinkBlock = 6,
 }
 
 impl TryFrom<u8> for Tag {
@@ -19,6 +23,10 @@ impl TryFrom<u8> for Tag {
         match byte {
             1 => Ok(Tag::MakeOperation),
             2 => Ok(Tag::MakeBlock),
+            3 => Ok(Tag::LinkOperation),
+            4 => Ok(Tag::LinkBlock),
+            5 => Ok(Tag::UnlinkOperation),
+            6 => Ok(Tag::UnlinkBlock),
             _ => Err(Refusal::UnknownTag),
         }
     }

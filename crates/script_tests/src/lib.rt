@@ -2,4 +2,6 @@
 #![tactic(auto)]
 
 #[cfg(test)]
+mod linking;
+#[cfg(test)]
 mod tests;

@@ -38,7 +38,7 @@ fn a_cut_field_goes_to_the_end(rt: HostRuntime) -> Result<(), Fail> {
 
 #[test]
 fn a_refused_field_is_passed(rt: HostRuntime) -> Result<(), Fail> {
-    prints(&rt, b"\x03\x00\x01~\x02\x00\x00", 0, b"0 refused 22\n", 4)?;
+    prints(&rt, b"\x10\x00\x01~\x02\x00\x00", 0, b"0 refused 22\n", 4)?;
     prints(&rt, b"\x01\x00\x01\x01", 0, b"0 refused 23\n", 4)?;
     prints(&rt, b"\x02\x00\x01\x01", 0, b"0 refused 23\n", 4)?;
     prints(&rt, b"\x01\x00\x02\x08\x00", 0, b"0 refused 4\n", 5)
