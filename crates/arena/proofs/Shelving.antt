@@ -51,11 +51,15 @@ take_other : (p : Pool) (n : ℕ) → (n ≡ next_place p → ⊥) → slot_at (
 unfolding take_place
 take_other p n ne = get_or-set_other p.slots (next_place p) n _ unused ne
 
+pub free_long : (h : Handle) (p : Pool) → length (free_place h p).slots ≡ length p.slots
+unfolding free_place
+free_long h p = length-set p.slots h.place _
+
 free_here : (h : Handle) (p : Pool) → live p h ≡ true → slot_at (free_place h p) h.place ≡ raised h.version
 unfolding free_place
 free_here h p e = get_or-set_same p.slots h.place _ unused (live_within p h e)
 
-free_other : (h : Handle) (p : Pool) (n : ℕ) → (n ≡ h.place → ⊥) → slot_at (free_place h p) n ≡ slot_at p n
+pub free_other : (h : Handle) (p : Pool) (n : ℕ) → (n ≡ h.place → ⊥) → slot_at (free_place h p) n ≡ slot_at p n
 unfolding free_place
 free_other h p n ne = get_or-set_other p.slots h.place n _ unused ne
 
@@ -67,6 +71,21 @@ other_version : (p : Pool) (k : Handle) (v : ℕ) → (slot_at p k.place).versio
 other_version p k v e ne =
     let is : (slot_at p k.place).version ≡ k.version → ⊥ = λ z. ne (sym z ∙ e) in
     and_right (is_live (slot_at p k.place).state) _ (ne_eqb _ _ is)
+
+-- no handle of a place that was freed is live
+pub free_dead : (h k : Handle) (p : Pool) → live p h ≡ true → k.place ≡ h.place → live (free_place h p) k ≡ false
+free_dead h k p e z =
+    dead_slot (slot_at (free_place h p) k.place) k.version (ap (λ (n : ℕ). is_live (slot_at (free_place h p) n).state) z ∙ ap (λ (y : Slot). is_live y.state) (free_here h p e) ∙ raised_dead h.version _)
+
+-- every handle but the one freed is live exactly if it was
+pub free_live_other : (h k : Handle) (p : Pool) → live p h ≡ true → (k ≡ h → ⊥) → live (free_place h p) k ≡ live p k
+free_live_other h k p e ne =
+    ⊎_elim
+    (λ (z : k.place ≡ h.place).
+    free_dead h k p e z
+    ∙ sym (other_version p k h.version (ap (λ (n : ℕ). (slot_at p n).version) z ∙ (live_parts p h e).1) (λ v. ne (same_handle k h z v))))
+    (λ (o : k.place ≡ h.place → ⊥). ap (λ (y : Slot). live_slot y k.version) (free_other h p k.place o))
+    (cases_eq k.place h.place)
 
 pub live_made : (p : Pool) → Sound p → 0 < room p → live (take_place p) (next p) ≡ true
 live_made p s h =
@@ -177,18 +196,10 @@ module _ {T : Type 0} where
       (λ (p : k.place ≡ h.place → ⊥). old k y (sym (only.others k (λ z. p (ap (λ (j : Handle). j.place) z))) ∙ e))
       (cases_eq k.place h.place)
 
-  end_only : (a : Shelf T) (h : Handle) → live a.pool h ≡ true → Only (at a) (at (ended h a)) h None
+  pub end_only : (a : Shelf T) (h : Handle) → live a.pool h ≡ true → Only (at a) (at (ended h a)) h None
   end_only a h e = record {
-    here = at_dead (ended h a) h (dead_slot (slot_at (free_place h a.pool) h.place) h.version (ap (λ (y : Slot). is_live y.state) (free_here h a.pool e) ∙ raised_dead h.version _));
-    others = λ k ne.
-        ⊎_elim
-        (λ (z : k.place ≡ h.place).
-        both_dead a (ended h a) k
-        (other_version a.pool k h.version (ap (λ (n : ℕ). (slot_at a.pool n).version) z ∙ (live_parts a.pool h e).1) (λ v. ne (same_handle k h z v)))
-        (dead_slot (slot_at (free_place h a.pool) k.place) k.version
-        (ap (λ (n : ℕ). is_live (slot_at (free_place h a.pool) n).state) z ∙ ap (λ (y : Slot). is_live y.state) (free_here h a.pool e) ∙ raised_dead h.version _)))
-        (λ (o : k.place ≡ h.place → ⊥). same_at a (ended h a) k (free_other h a.pool k.place o) refl)
-        (cases_eq k.place h.place);
+    here = at_dead (ended h a) h (free_dead h h a.pool e refl);
+    others = λ k ne. ap (λ (b : Bool). cond b (item a.records k.place) None) (free_live_other h k a.pool e ne);
   }
 
   pub shelf_long : (a : Arena T) → length (shelf a).records ≡ length (shelf a).pool.slots

@@ -16,6 +16,7 @@ use Rattle.records.specs.declared.ir_node.IRNode.TheVariants as node
 use Rattle.records.specs.declared.kind.Kind.{Kind}
 use Rattle.records.specs.declared.operation.Operation.{Operation}
 use Rattle.records.specs.declared.region.Region.{Region}
+use Rattle.records.specs.Children.{is_live}
 use Rattle.records.specs.Makings.{Roomy, body_of, new_block, new_operation, regions_made, with_block, with_operation}
 use Rattle.records.specs.Models.{Untouched, Model, next_op, next_region}
 use Rattle.records.specs.Nodes.{parent}
@@ -24,14 +25,8 @@ use Rattle.forest.proofs.Kept.{NewBody, body_more, loose_new, unused_dead}
 use Rattle.forest.proofs.Listed.{More, clash, decide, more_none, more_one, more_regions}
 use Rattle.forest.proofs.Tables.{Tables}
 
--- the node is live
-abbrev live_node : Model → IRNode → Bool
-live_node m (node.Operation p) = live m.operations.pool p.handle
-live_node m (node.BasicBlock p) = live m.blocks.pool p.handle
-live_node m (node.Region p) = live m.regions.pool p.handle
-
 -- a dead node has no parent
-dead_parent : (m : Model) (x : IRNode) → live_node m x ≡ false → parent m x ≡ None
+pub dead_parent : (m : Model) (x : IRNode) → is_live m x ≡ false → parent m x ≡ None
 dead_parent m (node.Operation p) e = ap (λ (o : Option Operation). option_map node.BasicBlock (part (λ (y : Operation). y.container) o)) (at_dead m.operations p.handle e)
 dead_parent m (node.BasicBlock p) e = ap (λ (o : Option BasicBlock). option_map node.Region (part (λ (y : BasicBlock). y.container) o)) (at_dead m.blocks p.handle e)
 dead_parent m (node.Region p) e = ap (λ (o : Option Region). option_map node.Operation (option_map (λ (y : Region). y.parent_op) o)) (at_dead m.regions p.handle e)
@@ -40,7 +35,7 @@ dead_parent m (node.Region p) e = ap (λ (o : Option Region). option_map node.Op
 pub fresh_acyclic : (m : Model) → Untouched m → Acyclic (parent m)
 fresh_acyclic m f = ∣ (λ x. root (dead_parent m x (all_dead x))) ∣₁
   where
-    all_dead : (x : IRNode) → live_node m x ≡ false
+    all_dead : (x : IRNode) → is_live m x ≡ false
     all_dead (node.Operation p) = unused_dead _ 512 p.handle f.operations
     all_dead (node.BasicBlock p) = unused_dead _ 256 p.handle f.blocks
     all_dead (node.Region p) = unused_dead _ 256 p.handle f.regions
@@ -97,18 +92,18 @@ module _ (m n : Model) (NewOp : Handle → Operation → Type 0) (NewBlock : Han
       (placed p.handle new.0 new.2))
       (dead_or_new m.blocks n.blocks NewBlock blocks p.handle dead)
 
-  new_ends : (x : IRNode) → live_node m x ≡ false → Ends (parent n) x
+  new_ends : (x : IRNode) → is_live m x ≡ false → Ends (parent n) x
   new_ends (node.Operation p) dead = new_op p dead
   new_ends (node.BasicBlock p) dead = new_block_ends p dead
   new_ends (node.Region p) dead = new_region p dead
 
-  same_parent : (x : IRNode) → live_node m x ≡ true → parent n x ≡ parent m x
+  same_parent : (x : IRNode) → is_live m x ≡ true → parent n x ≡ parent m x
   same_parent (node.Operation p) e = ap (λ (o : Option Operation). option_map node.BasicBlock (part (λ (y : Operation). y.container) o)) (ops.keeps p.handle e)
   same_parent (node.BasicBlock p) e = ap (λ (o : Option BasicBlock). option_map node.Region (part (λ (y : BasicBlock). y.container) o)) (blocks.keeps p.handle e)
   same_parent (node.Region p) e = ap (λ (o : Option Region). option_map node.Operation (option_map (λ (y : Region). y.parent_op) o)) (regions.keeps p.handle e)
 
   by_life : (x : IRNode) → (parent n x ≡ parent m x → Ends (parent n) x) → Ends (parent n) x
-  by_life x old = elim (decide (live_node m x)) [ inl e ↦ old (same_parent x e) | inr e ↦ new_ends x e ]
+  by_life x old = elim (decide (is_live m x)) [ inl e ↦ old (same_parent x e) | inr e ↦ new_ends x e ]
 
   old_ends : (x : IRNode) → Ends (parent m) x → Ends (parent n) x
   old_ends x (root e) = by_life x (λ same. root (same ∙ e))

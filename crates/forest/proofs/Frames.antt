@@ -20,29 +20,19 @@ use Rattle.records.specs.declared.region.Region.{Region}
 use Rattle.records.specs.Models.{Model, operation_at, region_at}
 use Rattle.records.specs.Nodes.{Belongs, Has, Owned, parent, regions_of}
 use Rattle.records.specs.Notes.{NotedIn, noted}
-use Rattle.records.specs.Views.{block_links, but_block_links, but_op_links, endless_block, endless_region, loose_block, loose_op, op_links, part}
-use Rattle.records.proofs.Rests.{same_mapped, same_part, same_pool, was}
+use Rattle.records.specs.Views.{block_links, but_block_links, but_op_links, endless_region, loose_op, op_links, part}
+use Rattle.records.proofs.Rests.{block_edit_links, op_edit_links, same_mapped, same_view, was}
 use Rattle.records.specs.Writes.{handles}
+use Rattle.erasers.proofs.Ends.{stand}
 use Rattle.forest.proofs.Above.{node_same}
 
--- views that differ in no part
-same_view : {N C : Type 0} {live live' : N → Bool} {held held' : C → Bool} {next next' prev prev' : N → Option N} {within within' : N → Option C} {head head' tail tail' : C → Option N}
-    → live ≡ live' → held ≡ held' → next ≡ next' → prev ≡ prev' → within ≡ within' → head ≡ head' → tail ≡ tail'
-    → ◌≡◌ {A = View N C} (record { live = live; held = held; next = next; prev = prev; within = within; head = head; tail = tail })
-    (record { live = live'; held = held'; next = next'; prev = prev'; within = within'; head = head'; tail = tail' })
-same_view p q r s t u v = cc
-
--- where a region stands: its operation, and its place among its regions
-abbrev place_of : Region → OpPtr × ℕ
-place_of x = (x.parent_op, x.index)
-
 module _ (m n : Model) (ops : (p : OpPtr) → option_map regions_of (operation_at n p) ≡ option_map regions_of (operation_at m p))
-    (regions : (r : RegionPtr) → option_map place_of (region_at n r) ≡ option_map place_of (region_at m r)) where
+    (regions : (r : RegionPtr) → option_map stand (region_at n r) ≡ option_map stand (region_at m r)) where
   belongs_same : Owned m → (op : OpPtr) (o : Operation) (i : ℕ) (r : RegionPtr) → operation_at n op ≡ Some o → item (regions_of o) i ≡ Some r → Belongs n op i r
   belongs_same w op o i r e f =
       let old = was regions_of (operation_at m op) (operation_at n op) o (ops op) e in
       let b = w.belongs op old.it i r old.is (ap (λ (rs : List RegionPtr). item rs i) old.alike ∙ f) in
-      let new = was place_of (region_at n r) (region_at m r) b.is_live (sym (regions r)) b.record_is in
+      let new = was stand (region_at n r) (region_at m r) b.is_live (sym (regions r)) b.record_is in
       record {
         is_live = new.it;
         record_is = new.is;
@@ -52,7 +42,7 @@ module _ (m n : Model) (ops : (p : OpPtr) → option_map regions_of (operation_a
 
   has_same : Owned m → (r : RegionPtr) (x : Region) → region_at n r ≡ Some x → Has n x.parent_op x.index r
   has_same w r x e =
-      let old = was place_of (region_at m r) (region_at n r) x (regions r) e in
+      let old = was stand (region_at m r) (region_at n r) x (regions r) e in
       let h = w.has r old.it old.is in
       let new = was regions_of (operation_at n old.it.parent_op) (operation_at m old.it.parent_op) h.is_live (sym (ops old.it.parent_op)) h.record_is in
       let there : Has n old.it.parent_op old.it.index r
@@ -99,7 +89,7 @@ module _ (m n : Model) (op : OpPtr) (note : ℕ) (e : NotedIn m op note n) where
   pub noted_owned : ∥ Owned m ∥₁ → ∥ Owned n ∥₁
   noted_owned = owned_same m n
       (λ p. noted_part (option_map regions_of) refl p.handle)
-      (λ r. ap (λ (a : Shelf Region). option_map place_of (at a r.handle)) e.regions)
+      (λ r. ap (λ (a : Shelf Region). option_map stand (at a r.handle)) e.regions)
 
   noted_parent : (y : IRNode) → parent n y ≡ parent m y
   noted_parent (node.Operation p) = ap (λ (v : View OpPtr BlockPtr). option_map node.BasicBlock (v.within p)) noted_op_links
@@ -111,31 +101,17 @@ module _ (m n : Model) (op : OpPtr) (note : ℕ) (e : NotedIn m op note n) where
 
 -- an edit of the links of operations in blocks
 module _ (m n : Model) (rest : but_op_links n ≡ but_op_links m) where
-  op_edit_blocks : ◌≡◌ {A = Shelf BasicBlock} (but_op_links n).blocks (but_op_links m).blocks
-  op_edit_blocks = ap (λ (a : Model). a.blocks) rest
-
   op_edit_regions : n.regions ≡ m.regions
   op_edit_regions = ap (λ (a : Model). a.regions) rest
-
-  pub op_edit_links : block_links n ≡ block_links m
-  op_edit_links =
-      same_view
-      (ap {B = BlockPtr → Bool} (λ (p : Pool) (b : BlockPtr). live p b.handle) (same_pool endless_block m.blocks n.blocks op_edit_blocks))
-      (ap {B = RegionPtr → Bool} (λ (a : Shelf Region) (c : RegionPtr). live a.pool c.handle) op_edit_regions)
-      (fun_ext (λ (p : BlockPtr). same_part endless_block m.blocks n.blocks op_edit_blocks (λ (b : BasicBlock). b.next) (λ b. refl) p.handle))
-      (fun_ext (λ (p : BlockPtr). same_part endless_block m.blocks n.blocks op_edit_blocks (λ (b : BasicBlock). b.prev) (λ b. refl) p.handle))
-      (fun_ext (λ (p : BlockPtr). same_part endless_block m.blocks n.blocks op_edit_blocks (λ (b : BasicBlock). b.container) (λ b. refl) p.handle))
-      (ap {B = RegionPtr → Option BlockPtr} (λ (a : Shelf Region) (c : RegionPtr). part (λ (r : Region). r.head) (at a c.handle)) op_edit_regions)
-      (ap {B = RegionPtr → Option BlockPtr} (λ (a : Shelf Region) (c : RegionPtr). part (λ (r : Region). r.tail) (at a c.handle)) op_edit_regions)
 
   pub op_edit_owned : ∥ Owned m ∥₁ → ∥ Owned n ∥₁
   op_edit_owned = owned_same m n
       (λ p. same_mapped loose_op m.operations n.operations (ap (λ (a : Model). a.operations) rest) regions_of (λ o. refl) p.handle)
-      (λ r. ap (λ (a : Shelf Region). option_map place_of (at a r.handle)) op_edit_regions)
+      (λ r. ap (λ (a : Shelf Region). option_map stand (at a r.handle)) op_edit_regions)
 
   pub op_edit_other : (op : OpPtr) (x : Option BlockPtr) → At (op_links m).within (op_links n).within op x → (y : IRNode) → (y ≡ node.Operation op → ⊥) → parent n y ≡ parent m y
   op_edit_other op x moves (node.Operation p) ne = ap (option_map node.BasicBlock) (moves.other p (λ e. ne (ap (λ (z : OpPtr). node.Operation z) e)))
-  op_edit_other op x moves (node.BasicBlock p) ne = ap (λ (v : View BlockPtr RegionPtr). option_map node.Region (v.within p)) op_edit_links
+  op_edit_other op x moves (node.BasicBlock p) ne = ap (λ (v : View BlockPtr RegionPtr). option_map node.Region (v.within p)) (op_edit_links m n rest)
   op_edit_other op x moves (node.Region p) ne = ap (λ (a : Shelf Region). option_map node.Operation (option_map (λ (z : Region). z.parent_op) (at a p.handle))) op_edit_regions
 
 -- an edit of the links of blocks in regions
@@ -143,30 +119,16 @@ module _ (m n : Model) (rest : but_block_links n ≡ but_block_links m) where
   block_edit_ops : n.operations ≡ m.operations
   block_edit_ops = ap (λ (a : Model). a.operations) rest
 
-  block_edit_blocks : ◌≡◌ {A = Shelf BasicBlock} (but_block_links n).blocks (but_block_links m).blocks
-  block_edit_blocks = ap (λ (a : Model). a.blocks) rest
-
   block_edit_regions : ◌≡◌ {A = Shelf Region} (but_block_links n).regions (but_block_links m).regions
   block_edit_regions = ap (λ (a : Model). a.regions) rest
-
-  pub block_edit_links : op_links n ≡ op_links m
-  block_edit_links =
-      same_view
-      (ap {B = OpPtr → Bool} (λ (a : Shelf Operation) (o : OpPtr). live a.pool o.handle) block_edit_ops)
-      (ap {B = BlockPtr → Bool} (λ (p : Pool) (c : BlockPtr). live p c.handle) (same_pool loose_block m.blocks n.blocks block_edit_blocks))
-      (ap {B = OpPtr → Option OpPtr} (λ (a : Shelf Operation) (p : OpPtr). part (λ (o : Operation). o.next) (at a p.handle)) block_edit_ops)
-      (ap {B = OpPtr → Option OpPtr} (λ (a : Shelf Operation) (p : OpPtr). part (λ (o : Operation). o.prev) (at a p.handle)) block_edit_ops)
-      (ap {B = OpPtr → Option BlockPtr} (λ (a : Shelf Operation) (p : OpPtr). part (λ (o : Operation). o.container) (at a p.handle)) block_edit_ops)
-      (fun_ext (λ (c : BlockPtr). same_part loose_block m.blocks n.blocks block_edit_blocks (λ (b : BasicBlock). b.head) (λ b. refl) c.handle))
-      (fun_ext (λ (c : BlockPtr). same_part loose_block m.blocks n.blocks block_edit_blocks (λ (b : BasicBlock). b.tail) (λ b. refl) c.handle))
 
   pub block_edit_owned : ∥ Owned m ∥₁ → ∥ Owned n ∥₁
   block_edit_owned = owned_same m n
       (λ p. ap (λ (a : Shelf Operation). option_map regions_of (at a p.handle)) block_edit_ops)
-      (λ r. same_mapped endless_region m.regions n.regions block_edit_regions place_of (λ x. refl) r.handle)
+      (λ r. same_mapped endless_region m.regions n.regions block_edit_regions stand (λ x. refl) r.handle)
 
   pub block_edit_other : (block : BlockPtr) (x : Option RegionPtr) → At (block_links m).within (block_links n).within block x → (y : IRNode) → (y ≡ node.BasicBlock block → ⊥) → parent n y ≡ parent m y
-  block_edit_other block x moves (node.Operation p) ne = ap (λ (v : View OpPtr BlockPtr). option_map node.BasicBlock (v.within p)) block_edit_links
+  block_edit_other block x moves (node.Operation p) ne = ap (λ (v : View OpPtr BlockPtr). option_map node.BasicBlock (v.within p)) (block_edit_links m n rest)
   block_edit_other block x moves (node.BasicBlock p) ne = ap (option_map node.Region) (moves.other p (λ e. ne (ap (λ (z : BlockPtr). node.BasicBlock z) e)))
   block_edit_other block x moves (node.Region p) ne =
       ap (option_map node.Operation) (same_mapped endless_region m.regions n.regions block_edit_regions (λ (z : Region). z.parent_op) (λ z. refl) p.handle)

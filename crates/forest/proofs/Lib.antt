@@ -8,3 +8,4 @@ pub mod Frames
 pub mod Owning
 pub mod Rowing
 pub mod Lefts
+pub mod Subtrees

@@ -18,11 +18,9 @@ use Rattle.records.specs.Makings.{new_region, with_regions}
 use Rattle.records.specs.Models.{Model}
 use Rattle.records.specs.Views.{block_links, op_links, part}
 use Rattle.records.proofs.Regions.{regions_grown}
+pub use Rattle.erasers.proofs.Ends.{clash, decide, no_some}
 use Rattle.forest.proofs.Tables.{Even}
 use Rattle.records.specs.Writes.{handles}
-
-pub clash : true ≡ false → ⊥
-clash e = let z : ◌≡◌ {A = ℕ} 0 1 = cc in omega arith
 
 -- Tables that grew.
 
@@ -104,13 +102,6 @@ was_held held old new c e = ap (λ (b : Bool). cond b (old c) (new c)) e
 
 pub not_held : {C N : Type 0} (held : C → Bool) (old new : C → List N) (c : C) → held c ≡ false → with_lists held old new c ≡ new c
 not_held held old new c e = ap (λ (b : Bool). cond b (old c) (new c)) e
-
-pub decide : (b : Bool) → (b ≡ true) ⊎ (b ≡ false)
-decide true = inl refl
-decide false = inr refl
-
-pub no_some : {X : Type 0} (x : X) (o : Option X) → o ≡ None → o ≡ Some x → ⊥
-no_some x o p q = let z : ◌≡◌ {A = ℕ} 0 1 = cc in omega arith
 
 -- Operations in blocks: a new operation stands in no block, and a new block is empty.
 module _ (m n : Model) (NewOp : Handle → Operation → Type 0) (NewBlock : Handle → BasicBlock → Type 0)

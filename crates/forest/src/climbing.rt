@@ -72,6 +72,14 @@ impl Forest {
         self.is_symbol(op) && self.is_body(block)
     }
 
+    // Whether the operation is a symbol directly in the body of a table.
+    pub fn is_bound(&self, op: OpPtr) -> bool
+        ensures { result ≡ table_bound (model self.now) op ((op_links (model self.now)).within op) }
+    {
+        self.block_of(op)
+            .is_some_and(|block| self.is_table_bound(op, block))
+    }
+
     // The node in which a node stands.
     pub fn parent(&self, node: IRNode) -> Option<IRNode>
         ensures { result ≡ parent (model self.now) node }

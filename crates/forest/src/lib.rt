@@ -4,11 +4,13 @@
 mod child;
 mod climbing;
 mod entering;
+mod erasing;
 mod forest;
 mod iter;
 mod iterating;
 mod linking;
 mod making;
+mod placing;
 
 pub use forest::Forest;
 pub use iter::{BlockIter, OpIter};

@@ -3,6 +3,8 @@ pub mod Padding
 pub mod Models
 pub mod Views
 pub mod Nodes
+pub mod Children
+pub mod Endings
 pub mod Makings
 pub mod Notes
 pub mod Writes

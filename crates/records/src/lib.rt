@@ -3,6 +3,7 @@
 #![tactic(auto)]
 
 mod basic_block;
+mod freeing;
 mod handles;
 mod ir_node;
 mod kind;

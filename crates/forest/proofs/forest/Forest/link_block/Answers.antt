@@ -8,7 +8,8 @@ use Rattle.records.specs.Models.{tables}
 use Rattle.records.specs.Nodes.{block_target, is, of_table, parent}
 use Rattle.records.specs.Views.{block_links}
 use Rattle.forest.proofs.Above.{spot_outside}
-use Rattle.forest.proofs.Frames.{block_edit_links, block_edit_other, block_edit_owned, linked_acyclic}
+use Rattle.records.proofs.Rests.{block_edit_links}
+use Rattle.forest.proofs.Frames.{block_edit_other, block_edit_owned, linked_acyclic}
 use Rattle.forest.proofs.Listed.{clash}
 use Rattle.forest.proofs.Rowing.{block_spot, passed_rows}
 use Rattle.forest.proofs.forest.Forest.link_block.Goals as goal

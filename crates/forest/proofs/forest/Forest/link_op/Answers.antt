@@ -7,7 +7,8 @@ use Rattle.records.specs.Models.{tables}
 use Rattle.records.specs.Nodes.{op_target, parent, table_bound}
 use Rattle.records.specs.Views.{op_links}
 use Rattle.forest.proofs.Above.{spot_outside}
-use Rattle.forest.proofs.Frames.{op_edit_links, op_edit_other, op_edit_owned, linked_acyclic}
+use Rattle.records.proofs.Rests.{op_edit_links}
+use Rattle.forest.proofs.Frames.{op_edit_other, op_edit_owned, linked_acyclic}
 use Rattle.forest.proofs.Listed.{clash}
 use Rattle.forest.proofs.Rowing.{op_spot, passed_rows}
 use Rattle.forest.proofs.forest.Forest.link_op.Goals as goal

@@ -3,7 +3,8 @@ use Rattle.std.specs.Option.{option_map}
 use Rattle.linked_list.specs.Links.{Sound}
 use Rattle.records.specs.declared.ir_node.IRNode.TheVariants as node
 use Rattle.records.specs.Models.{tables}
-use Rattle.forest.proofs.Frames.{block_edit_links, block_edit_other, block_edit_owned, unlinked_acyclic}
+use Rattle.records.proofs.Rests.{block_edit_links}
+use Rattle.forest.proofs.Frames.{block_edit_other, block_edit_owned, unlinked_acyclic}
 use Rattle.forest.proofs.forest.Forest.unlink_block.Goals as goal
 
 pub invariant_of-self : goal.invariant_of-self

@@ -3,7 +3,8 @@ use Rattle.std.specs.Option.{option_map}
 use Rattle.linked_list.specs.Links.{Sound}
 use Rattle.records.specs.declared.ir_node.IRNode.TheVariants as node
 use Rattle.records.specs.Models.{tables}
-use Rattle.forest.proofs.Frames.{op_edit_links, op_edit_other, op_edit_owned, unlinked_acyclic}
+use Rattle.records.proofs.Rests.{op_edit_links}
+use Rattle.forest.proofs.Frames.{op_edit_other, op_edit_owned, unlinked_acyclic}
 use Rattle.forest.proofs.forest.Forest.unlink_op.Goals as goal
 
 pub invariant_of-self : goal.invariant_of-self
