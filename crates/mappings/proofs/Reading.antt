@@ -1,12 +1,13 @@
--- Going over the entries: counting those that are used, and finding one of a table.
-use Rattle.std.proofs.Common.{◌≡◌, ℕ, zero, suc, ◌+◌, ◌<◌, ◌≤◌, true, false, [], ◌∷◌, length, take, Some, None, IsSome, is_some, vec_items, sym, refl, ap, ◌∙◌, subst, ⊎_elim, arith, take_all}
-use Rattle.std.proofs.lemmas.Bool.{cases_eq}
+-- Going over the entries: counting those that are used, and finding one of a table that is not kept.
+use Rattle.std.proofs.Common.{◌≡◌, ℕ, zero, suc, ◌+◌, ◌<◌, ◌≤◌, Bool, true, false, [], ◌∷◌, length, take, Some, None, Option, IsSome, is_some, vec_items, sym, refl, ap, ◌∙◌, subst, ⊎_elim, arith, take_all}
+use Rattle.std.proofs.lemmas.Bool.{cases_eq, true≢false}
 use Rattle.records.specs.declared.handles.OpPtr.{OpPtr}
 use Rattle.table.specs.Maps.{MapEntry, entry_at, weigh, used}
 use Rattle.table.proofs.Entries.{not_free, same_key, used_within}
 use Rattle.mappings.specs.declared.mappings.Mappings.{Mappings}
 use Rattle.mappings.specs.declared.name_in.NameIn.{NameIn}
 use Rattle.mappings.specs.Deciding.{name_in}
+use Rattle.mappings.specs.Edits.{Taken}
 use Rattle.mappings.specs.Held.{held_count, mapped}
 use Rattle.mappings.proofs.Holding.{probed, found, count_is}
 use Rattle.mappings.proofs.Looking.{Entries, looked}
@@ -45,38 +46,44 @@ counted_free es i n h e s = let more = one_more es i h in let w = weigh_free (en
 pub counted_all : (m : Mappings) (xs : Entries) (i n : ℕ) → xs ≡ vec_items m.entries → length xs ≤ i → n ≡ used (take i xs) → n ≡ held_count m
 counted_all m xs i n e h c = c ∙ ap used (take_all i xs h) ∙ ap used e ∙ count_is m
 
--- Names of one table.
+-- Names of tables that are not kept.
 
--- no entry before a place holds a name of the table
-pub record NoneBefore (es : Entries) (table : OpPtr) (n : ℕ) : Type 0 where
-  pub none : (i : ℕ) (k : NameIn) (op : OpPtr) → i < n → entry_at es i ≡ Some (k, op) → k.table ≡ table → ⊥
+-- no entry before a place holds a name of such a table
+pub record NoneBefore (keeps : OpPtr → Bool) (es : Entries) (n : ℕ) : Type 0 where
+  pub none : (i : ℕ) (k : NameIn) (op : OpPtr) → i < n → entry_at es i ≡ Some (k, op) → keeps k.table ≡ false → ⊥
 
-none_more : (es : Entries) (table : OpPtr) (n : ℕ) → NoneBefore es table n → ((k : NameIn) (op : OpPtr) → entry_at es n ≡ Some (k, op) → k.table ≡ table → ⊥) → NoneBefore es table (n + 1)
-none_more es table n before here = record {
-  none = λ i k op h e same.
-      ⊎_elim
-      (λ (at : i ≡ n). here k op (ap (entry_at es) (sym at) ∙ e) same)
-      (λ (other : i ≡ n → ⊥). before.none i k op (omega arith) e same)
-      (cases_eq i n);
-}
+module _ (keeps : OpPtr → Bool) where
+  none_more : (es : Entries) (n : ℕ) → NoneBefore keeps es n → ((k : NameIn) (op : OpPtr) → entry_at es n ≡ Some (k, op) → keeps k.table ≡ false → ⊥) → NoneBefore keeps es (n + 1)
+  none_more es n before here = record {
+    none = λ i k op h e out.
+        ⊎_elim
+        (λ (at : i ≡ n). here k op (ap (entry_at es) (sym at) ∙ e) out)
+        (λ (other : i ≡ n → ⊥). before.none i k op (omega arith) e out)
+        (cases_eq i n);
+  }
 
--- an entry that is free holds none
-pub none_more_free : (es : Entries) (table : OpPtr) (n : ℕ) → NoneBefore es table n → entry_at es n ≡ None → NoneBefore es table (n + 1)
-none_more_free es table n before free = none_more es table n before (λ k op e same. not_free k op (entry_at es n) free e)
+  -- an entry that is free holds none
+  pub none_more_free : (es : Entries) (n : ℕ) → NoneBefore keeps es n → entry_at es n ≡ None → NoneBefore keeps es (n + 1)
+  none_more_free es n before free = none_more es n before (λ k op e out. not_free k op (entry_at es n) free e)
 
--- nor does one that another table uses
-pub none_more_used : (es : Entries) (table : OpPtr) (n : ℕ) (q : NameIn) (p : OpPtr) → NoneBefore es table n → entry_at es n ≡ Some (q, p) → (q.table ≡ table → ⊥) → NoneBefore es table (n + 1)
-none_more_used es table n q p before is other =
-    none_more es table n before (λ k op e same. other (ap (λ (x : NameIn). x.table) (same_key k q op p (entry_at es n) e is) ∙ same))
+  -- nor does one that a table uses which is kept
+  pub none_more_used : (es : Entries) (n : ℕ) (q : NameIn) (p : OpPtr) → NoneBefore keeps es n → entry_at es n ≡ Some (q, p) → (keeps q.table ≡ false → ⊥) → NoneBefore keeps es (n + 1)
+  none_more_used es n q p before is kept =
+      none_more es n before (λ k op e out. kept (ap (λ (x : NameIn). keeps x.table) (same_key k q op p (entry_at es n) e is) ∙ out))
 
--- an entry of the table has one of its names
-pub one_named : (m : Mappings) (xs : Entries) (i : ℕ) (k : NameIn) (op table : OpPtr) → xs ≡ vec_items m.entries → entry_at xs i ≡ Some (k, op) → k.table ≡ table → IsSome (mapped m table k.name)
-one_named m xs i k op table f e same =
+  -- tables that are not kept, of which no entry holds a name, have none
+  pub none_named : (m : Mappings) (xs : Entries) (n : ℕ) → xs ≡ vec_items m.entries → length xs ≤ n → NoneBefore keeps xs n → (table : OpPtr) (name : ℕ) → keeps table ≡ false → mapped m table name ≡ None
+  none_named m xs n f h before table name out =
+      sym (found m xs table name None f
+      (λ p i op e. before.none i (name_in table name) op (let within = used_within xs i (name_in table name) op e in omega arith) e out))
+
+-- the name of an entry is mapped
+pub one_named : (m : Mappings) (xs : Entries) (i : ℕ) (k : NameIn) (op : OpPtr) → xs ≡ vec_items m.entries → entry_at xs i ≡ Some (k, op) → IsSome (mapped m k.table k.name)
+one_named m xs i k op f e =
     let here : Some op ≡ mapped m k.table k.name = looked (vec_items m.entries) k (Some op) (probed m) (i, ap (λ (ys : Entries). entry_at ys i) (sym f) ∙ e) in
-    subst (λ (t : OpPtr). IsSome (mapped m t k.name)) same (subst IsSome here refl)
+    subst IsSome here refl
 
--- a table of which no entry holds a name has none
-pub none_named : (m : Mappings) (xs : Entries) (table : OpPtr) (n : ℕ) → xs ≡ vec_items m.entries → length xs ≤ n → NoneBefore xs table n → (name : ℕ) → mapped m table name ≡ None
-none_named m xs table n f h before name =
-    sym (found m xs table name None f
-    (λ p i op e. before.none i (name_in table name) op (let within = used_within xs i (name_in table name) op e in omega arith) e refl))
+-- one mapping less is held where a name is taken that was mapped
+pub taken_less : (m n : Mappings) (table : OpPtr) (name : ℕ) (old : Option OpPtr) → Taken m table name old n → IsSome (mapped m table name) → held_count n < held_count m
+taken_less m n table name None out h = absurd (true≢false (sym h ∙ sym (ap is_some out.was)))
+taken_less m n table name (Some op) out h = let less = out.count in omega arith

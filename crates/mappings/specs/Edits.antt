@@ -1,9 +1,10 @@
 -- What the calls answer and leave.
-use Rattle.std.specs.Prelude.{◌≡◌, ℕ, ◌+◌, ◌<◌, Some, None, Ok, Err, Option, Result, IsSome, ◌≢◌}
+use Rattle.std.specs.Prelude.{◌≡◌, ℕ, ◌+◌, ◌<◌, Bool, true, false, Some, None, Ok, Err, Option, Result, IsSome, ◌≢◌}
 use Rattle.records.specs.declared.handles.OpPtr.{OpPtr}
 use Rattle.table.specs.declared.entry.Full.{Full}
 use Rattle.table.specs.Maps.{fresh, stood}
 use Rattle.mappings.specs.declared.mappings.Mappings.{Mappings}
+use Rattle.mappings.specs.declared.name_in.NameIn.{NameIn}
 use Rattle.mappings.specs.Held.{held_count, mapped}
 
 -- the table has this operation under the name now, or none, and all else is mapped as it was
@@ -36,12 +37,12 @@ pub record Taken (m : Mappings) (table : OpPtr) (name : ℕ) (old : Option OpPtr
   pub count : held_count n + stood old ≡ held_count m
   pub same : old ≡ None → n ≡ m
 
--- the table has no names any more, and all other tables have theirs
-pub record Forgotten (m : Mappings) (table : OpPtr) (n : Mappings) : Type 0 where
-  pub gone : (name : ℕ) → mapped n table name ≡ None
-  pub others : (t : OpPtr) (name : ℕ) → (t ≢ table) → mapped n t name ≡ mapped m t name
+-- the tables that are kept have their names, and the others have none
+pub record Retained (keeps : OpPtr → Bool) (m n : Mappings) : Type 0 where
+  pub kept : (table : OpPtr) (name : ℕ) → keeps table ≡ true → mapped n table name ≡ mapped m table name
+  pub gone : (table : OpPtr) (name : ℕ) → keeps table ≡ false → mapped n table name ≡ None
 
--- one of the names that a table has, or that it has none
-abbrev pub AnyName : Mappings → OpPtr → Option ℕ → Type 0
-AnyName m table (Some name) = IsSome (mapped m table name)
-AnyName m table None = (name : ℕ) → mapped m table name ≡ None
+-- one of the names of the tables that are not kept, or that they have none
+abbrev pub Unkept : (OpPtr → Bool) → Mappings → Option NameIn → Type 0
+Unkept keeps m (Some key) = IsSome (mapped m key.table key.name) × (keeps key.table ≡ false)
+Unkept keeps m None = (table : OpPtr) (name : ℕ) → keeps table ≡ false → mapped m table name ≡ None

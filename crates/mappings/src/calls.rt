@@ -1,8 +1,9 @@
 // Finding, holding and taking away mappings.
 ghost use Rattle.std.specs.Prelude.{◌≡◌, ◌≤◌, [], IfOk};
 ghost use Rattle.mappings.specs.Held.{held, held_count, mapped};
-ghost use Rattle.mappings.specs.Edits.{Puts, Taken, Forgotten, AnyName};
+ghost use Rattle.mappings.specs.Edits.{Puts, Retained, Taken, Unkept};
 
+use super::keeper::Keeper;
 use super::mappings::Mappings;
 use super::name_in::NameIn;
 use records::OpPtr;
@@ -42,12 +43,13 @@ impl Mappings {
         remove(&mut self.entries, NameIn { table, name })
     }
 
-    // Takes every name away from the table. Taking one away moves others, so the next is looked for from the first entry on.
-    pub fn forget(&mut self, table: OpPtr)
-        ensures { Forgotten self.old table self.new }
+    // Takes every name away from the tables that are not kept. Taking one away moves others, so the next is looked for from the first
+    // entry on.
+    pub fn retain<K: Keeper>(&mut self, keeper: &K)
+        ensures { Retained (K.keeps keeper.now) self.old self.new }
     {
-        'names: while let Some(name) = self.any_name(table) {
-            let _ = self.take(table, name);
+        'names: while let Some(key) = self.unkept(keeper) {
+            let _ = self.take(key.table, key.name);
         }
     }
 
@@ -65,14 +67,14 @@ impl Mappings {
         count
     }
 
-    // One of the names that the table has, if it has any.
-    fn any_name(&self, table: OpPtr) -> Option<u16>
-        ensures { AnyName self.now table result }
+    // One of the names of the tables that are not kept, if they have any.
+    fn unkept<K: Keeper>(&self, keeper: &K) -> Option<NameIn>
+        ensures { Unkept (K.keeps keeper.now) self.now result }
     {
         for entry in &self.entries {
             let Some((key, _)) = *entry else { continue };
-            if key.table == table {
-                return Some(key.name);
+            if !keeper.is_kept(key.table) {
+                return Some(key);
             }
         }
         None

@@ -2,6 +2,7 @@
 #![tactic(auto)]
 
 mod calls;
+mod keeper;
 mod key;
 mod laws;
 mod mappings;
@@ -9,6 +10,7 @@ mod name_in;
 #[cfg(test)]
 mod tests;
 
+pub use keeper::Keeper;
 pub use laws::{names_are_held_once, room_for_one_more};
 pub use mappings::Mappings;
 pub use name_in::NameIn;

@@ -1,5 +1,7 @@
 // Mappings as a store holds them.
-use super::Mappings;
+ghost use Rattle.std.specs.Prelude.{◌&&◌, ◌==◌};
+
+use super::{Keeper, Mappings};
 use arena::Handle;
 use records::OpPtr;
 use std::test::Fail;
@@ -7,6 +9,20 @@ use std::test::Fail;
 fn op(place: usize) -> OpPtr {
     OpPtr {
         handle: Handle { place, version: 1 },
+    }
+}
+
+// Keeps the names of one table.
+#[derive(Drop)]
+struct Only {
+    table: OpPtr,
+}
+
+impl Keeper for Only {
+    ghost keeps = { λ only table. (only.table.handle.place == table.handle.place) && (only.table.handle.version == table.handle.version) };
+
+    fn is_kept(&self, table: OpPtr) -> bool {
+        self.table == table
     }
 }
 
@@ -25,13 +41,13 @@ fn a_name_put_is_found_in_its_table_alone(rt: HostRuntime) -> Result<(), Fail> {
 }
 
 #[test]
-fn a_table_forgotten_leaves_the_others(rt: HostRuntime) -> Result<(), Fail> {
+fn a_table_kept_has_its_names_and_no_other_has(rt: HostRuntime) -> Result<(), Fail> {
     let mut mappings = Mappings::new(rt.alloc())?;
     for name in 0..40 {
         mappings.put(op(0), name, op(1))?;
         mappings.put(op(2), name, op(3))?;
     }
-    mappings.forget(op(0));
+    mappings.retain(&Only { table: op(2) });
     assert!(rt; mappings.count() == 40);
     assert!(rt; mappings.find(op(0), 39) == None);
     assert!(rt; mappings.find(op(2), 39) == Some(op(3)));

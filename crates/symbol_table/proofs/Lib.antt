@@ -1,0 +1,16 @@
+pub mod Ones
+pub mod Equating
+pub mod Faces
+pub mod Following
+pub mod Growing
+pub mod Regioning
+pub mod Carrying
+pub mod Stores
+pub mod Findings
+pub mod Spots
+pub mod Putting
+pub mod Inserted
+pub mod Fewer
+pub mod Erased
+pub mod Owned
+pub mod Freshness
