@@ -16,11 +16,10 @@ use Rattle.records.specs.declared.kind.Kind.{Kind}
 use Rattle.records.specs.declared.making.MadeOperation.{MadeOperation}
 use Rattle.records.specs.declared.operation.Operation.{Operation}
 use Rattle.records.specs.declared.shape.Shape.{Shape}
-use Rattle.forest.specs.Calls.{Fresh, MakesBlock, MakesOperation, Notes}
+use Rattle.forest.specs.Calls.{Fresh}
 use Rattle.records.specs.Notes.{noted}
 use Rattle.records.specs.Views.{but_block_links, but_op_links, loose_op}
 use Rattle.records.proofs.Rests.{same_mapped, was}
-use Rattle.forest.specs.Linkings.{LinksBlock, LinksOp, UnlinksBlock, UnlinksOp}
 use Rattle.linked_list.specs.declared.spot.Spot.{Spot}
 use Rattle.result.specs.declared.refusal.Refusal.{Refusal}
 use Rattle.records.specs.declared.handles.RegionPtr.{RegionPtr}
@@ -32,6 +31,10 @@ use Rattle.names.specs.Held.{Finds, held}
 use Rattle.names.specs.Held.{Reads as NamesRead}
 use Rattle.std.specs.Option.{option_map}
 use Rattle.result.specs.Rows.{Answered, NoRow}
+use Rattle.symbol_table.specs.declared.op_insertion_point.OpInsertionPoint.{OpInsertionPoint}
+use Rattle.symbol_table.specs.declared.symbol_tables.SymbolTables.{SymbolTables}
+use Rattle.symbol_table.specs.Carried.{LinksBlockIn, LinksOpIn, MakesBlockIn, MakesOperationIn, NotesIn, UnlinksBlockIn, UnlinksOpIn, nodes as tabled}
+use Rattle.symbol_table.specs.Inserting.{Inserts, Removes}
 use Rattle.ir.specs.declared.context.Context.{Context}
 use Rattle.ir.specs.Calls.{Holding, operation_rows}
 use Rattle.ir.specs.Stores.{name_at, name_of, names, nodes}
@@ -44,12 +47,12 @@ use Rattle.identifier.specs.Identifiers.{text}
 pub numbers_held : (m : Model) (n : ℕ) → ∥ NumbersHeld m n ∥₁ → NumbersHeld m n
 numbers_held m n t = record { number = λ op o i e f. ∥∥₁_elim t le_prop (λ x. x.number op o i e f) }
 
--- a store is its nodes and its names
-pub same_context : (s t : Context) → t.forest ≡ s.forest → t.names ≡ s.names → t ≡ s
+-- a store is its nodes with their symbol tables, and its names
+pub same_context : (s t : Context) → t.tables ≡ s.tables → t.names ≡ s.names → t ≡ s
 same_context s t f n =
-    let P : Forest → Names → Type 0 = λ g m. (q : ∥ NumbersHeld (model g) (length (held m)) ∥₁) → ◌≡◌ {A = Context} (record { forest = g; names = m; numbers = q }) s in
-    let base : P s.forest s.names = λ q. ap (λ (o : ∥ NumbersHeld (model s.forest) (length (held s.names)) ∥₁). record { forest = s.forest; names = s.names; numbers = o }) (∥∥₁_prop q s.numbers) in
-    subst (λ (g : Forest). P g t.names) (sym f) (subst (λ (m : Names). P s.forest m) (sym n) base) t.numbers
+    let P : SymbolTables → Names → Type 0 = λ g m. (q : ∥ NumbersHeld (tabled g) (length (held m)) ∥₁) → ◌≡◌ {A = Context} (record { tables = g; names = m; numbers = q }) s in
+    let base : P s.tables s.names = λ q. ap (λ (o : ∥ NumbersHeld (nodes s) (length (held s.names)) ∥₁). record { tables = s.tables; names = s.names; numbers = o }) (∥∥₁_prop q s.numbers) in
+    subst (λ (g : SymbolTables). P g t.names) (sym f) (subst (λ (m : Names). P s.tables m) (sym n) base) t.numbers
 
 -- the names held only grow
 holding_longer : (before after : List (List ℕ)) (name : List ℕ) (i : ℕ) → Holding before name i after → (i < length after) × (length before ≤ length after)
@@ -84,16 +87,17 @@ made_held f m before after kind count name number held given roomy e =
     subst (λ (n : Model). NumbersHeld n (length after)) (sym e) (record { number = λ op o i z q. all op.handle o z i q })
 
 -- a block that is made, and a note that is set, leave the names as they are
-pub block_held : (f t : Forest) (r : Result BlockPtr Refusal) (n : ℕ) → MakesBlock f r t → NumbersHeld (model f) n → NumbersHeld (model t) n
-block_held f t (Err x) n e h = subst (λ (g : Forest). NumbersHeld (model g) n) (sym e.1) h
+pub block_held : (f t : SymbolTables) (r : Result BlockPtr Refusal) (n : ℕ) → MakesBlockIn f r t → NumbersHeld (tabled f) n → NumbersHeld (tabled t) n
+block_held f t (Err x) n e h = subst (λ (g : SymbolTables). NumbersHeld (tabled g) n) (sym e.1) h
 block_held f t (Ok r) n e h =
-    subst (λ (m : Model). NumbersHeld m n) (sym e.1.after) (record { number = λ op o i z q. h.number op o i z q })
+    subst (λ (m : Model). NumbersHeld m n) (sym e.1.0.after) (record { number = λ op o i z q. h.number op o i z q })
 
-pub noted_held : (f t : Forest) (op : OpPtr) (note : ℕ) (r : Result (Unit {0}) Refusal) (n : ℕ) → Notes f op note r t → NumbersHeld (model f) n → NumbersHeld (model t) n
-noted_held f t op note (Err x) n e h = subst (λ (g : Forest). NumbersHeld (model g) n) (sym e.1) h
+pub noted_held : (f t : SymbolTables) (op : OpPtr) (note : ℕ) (r : Result (Unit {0}) Refusal) (n : ℕ) → NotesIn f op note r t → NumbersHeld (tabled f) n → NumbersHeld (tabled t) n
+noted_held f t op note (Err x) n e h = subst (λ (g : SymbolTables). NumbersHeld (tabled g) n) (sym e.1) h
 noted_held f t op note (Ok x) n e h =
     let P : Operation → Type 0 = λ o. (i : ℕ) → o.name ≡ Some i → i < n in
-    let all = only_all (at (model f).operations) (at (model t).operations) op.handle (noted note e.1.old) P e.1.only (λ i q. h.number op e.1.old i e.1.was q)
+    let d = e.1.0 in
+    let all = only_all (at (tabled f).operations) (at (tabled t).operations) op.handle (noted note d.old) P d.only (λ i q. h.number op d.old i d.was q)
     (λ k y z i q. h.number (record { handle = k }) y i z q) in
     record { number = λ p o i z q. all p.handle o z i q }
 
@@ -133,13 +137,24 @@ read_name s op o i (Some x) e n h =
       ap (option_map (name_of (names s))) is ∙ ap (λ (m : Option ℕ). Some (name_at (names s) m)) n ∙ ap (λ (t : List ℕ). Some (Some t)) (h.is []),
     )
 
+-- there is a number exactly where there is a name
+given_is : (before after : List (List ℕ)) (name : Option Identifier) (number : Option ℕ) → NumberGiven before name number after → is_some name ≡ is_some number
+given_is before after None None h = refl
+given_is before after None (Some i) h = sym (ap is_some h.0)
+given_is before after (Some n) None h = absurd h
+given_is before after (Some n) (Some i) h = refl
+
 -- what a making leaves, whatever it answers, where enough records are free
-pub shaped_held : (f t : Forest) (before after : List (List ℕ)) (shape : Shape) (name : Option Identifier) (number : Option ℕ) (r : Result MadeOperation Refusal)
-    → NumbersHeld (model f) (length before) → NumberGiven before name number after → MakesOperation f shape number r t → Roomy shape.kind shape.count (model f)
-    → NumbersHeld (model t) (length after)
-shaped_held f t before after shape name number (Err e) held given made roomy = absurd (elim made.0 [ inl h ↦ h.1 roomy | inr h ↦ h.1 ])
-shaped_held f t before after shape name number (Ok r) held given made roomy =
-    made_held f (model t) before after shape.kind shape.count name number held given roomy made.1.after
+pub shaped_held : (f t : SymbolTables) (before after : List (List ℕ)) (shape : Shape) (name : Option Identifier) (number : Option ℕ) (r : Result MadeOperation Refusal)
+    → NumbersHeld (tabled f) (length before) → NumberGiven before name number after → MakesOperationIn f shape number r t → Roomy shape.kind shape.count (tabled f)
+    → shape.kind.symbol ≡ is_some name → NumbersHeld (tabled t) (length after)
+shaped_held f t before after shape name number (Err e) held given made roomy named =
+    absurd (elim made.0 [
+      | inl h ↦ h.1 (named ∙ given_is before after name number given)
+      | inr h ↦ elim h.1 [ inl k ↦ k.1 roomy | inr k ↦ k.1 ]
+    ])
+shaped_held f t before after shape name number (Ok r) held given made roomy named =
+    made_held f.forest (tabled t) before after shape.kind shape.count name number held given roomy made.1.0.after
 
 -- where no fewer than 256 names are held, 256 are
 pub all_held : (s : Names) → 256 ≤ length (held s) → length (held s) ≡ 256
@@ -163,28 +178,37 @@ block_edit_held m t n rest =
     same_names m t n (λ p. ap (λ (a : Shelf Operation). option_map (λ (o : Operation). o.name) (at a p.handle)) (ap (λ (a : Model). a.operations) rest))
 
 -- linkings and unlinkings, done or refused, leave every name held
-module _ (f t : Forest) (n : ℕ) (held : NumbersHeld (model f) n) where
-  stays : t ≡ f → NumbersHeld (model t) n
-  stays same = subst (λ (g : Forest). NumbersHeld (model g) n) (sym same) held
+module _ (f t : SymbolTables) (n : ℕ) (held : NumbersHeld (tabled f) n) where
+  stays : t ≡ f → NumbersHeld (tabled t) n
+  stays same = subst (λ (g : SymbolTables). NumbersHeld (tabled g) n) (sym same) held
 
-  pub op_linked_held : (op : OpPtr) (spot : Spot OpPtr BlockPtr) (r : Result (Unit {0}) Refusal) → LinksOp f op spot r t → NumbersHeld (model t) n
-  op_linked_held op spot (Ok x) a = op_edit_held (model f) (model t) n a.1.rests held
+  pub op_linked_held : (op : OpPtr) (spot : Spot OpPtr BlockPtr) (r : Result (Unit {0}) Refusal) → LinksOpIn f op spot r t → NumbersHeld (tabled t) n
+  op_linked_held op spot (Ok x) a = op_edit_held (tabled f) (tabled t) n a.1.0.rests held
   op_linked_held op spot (Err e) a = stays a.1
 
-  pub op_unlinked_held : (op : OpPtr) (r : Result (Unit {0}) Refusal) → UnlinksOp f op r t → NumbersHeld (model t) n
-  op_unlinked_held op (Ok x) a = op_edit_held (model f) (model t) n a.1.rests held
+  pub op_unlinked_held : (op : OpPtr) (r : Result (Unit {0}) Refusal) → UnlinksOpIn f op r t → NumbersHeld (tabled t) n
+  op_unlinked_held op (Ok x) a = op_edit_held (tabled f) (tabled t) n a.1.0.rests held
   op_unlinked_held op (Err e) a = stays a.1
 
-  pub block_linked_held : (block : BlockPtr) (spot : Spot BlockPtr RegionPtr) (r : Result (Unit {0}) Refusal) → LinksBlock f block spot r t → NumbersHeld (model t) n
-  block_linked_held block spot (Ok x) a = block_edit_held (model f) (model t) n a.1.rests held
+  pub block_linked_held : (block : BlockPtr) (spot : Spot BlockPtr RegionPtr) (r : Result (Unit {0}) Refusal) → LinksBlockIn f block spot r t → NumbersHeld (tabled t) n
+  block_linked_held block spot (Ok x) a = block_edit_held (tabled f) (tabled t) n a.1.0.rests held
   block_linked_held block spot (Err e) a = stays a.1
 
-  pub block_unlinked_held : (block : BlockPtr) (r : Result (Unit {0}) Refusal) → UnlinksBlock f block r t → NumbersHeld (model t) n
-  block_unlinked_held block (Ok x) a = block_edit_held (model f) (model t) n a.1.rests held
+  pub block_unlinked_held : (block : BlockPtr) (r : Result (Unit {0}) Refusal) → UnlinksBlockIn f block r t → NumbersHeld (tabled t) n
+  block_unlinked_held block (Ok x) a = block_edit_held (tabled f) (tabled t) n a.1.0.rests held
   block_unlinked_held block (Err e) a = stays a.1
 
--- what a call on the nodes answers, a call on the store does, where the names stay
-pub answered : {X : Type 0} (rows : List (Refusal × Type 0)) (done : X → Forest → Type 0) (all : X → Context → Type 0) (s t : Context) → t.names ≡ s.names → ((x : X) → done x t.forest → all x t)
-    → (r : Result X Refusal) → Answered rows done s.forest r t.forest → Answered rows all s r t
+  -- so do putting a symbol into a table and taking it out
+  pub inserted_held : (table op : OpPtr) (point : Option OpInsertionPoint) (r : Result (Unit {0}) Refusal) → Inserts f table op point r t → NumbersHeld (tabled t) n
+  inserted_held table op point (Ok x) a = op_edit_held (tabled f) (tabled t) n a.1.linked.rests held
+  inserted_held table op point (Err e) a = stays a.1
+
+  pub removed_held : (table op : OpPtr) (r : Result (Unit {0}) Refusal) → Removes f table op r t → NumbersHeld (tabled t) n
+  removed_held table op (Ok x) a = op_edit_held (tabled f) (tabled t) n a.1.unlinked.rests held
+  removed_held table op (Err e) a = stays a.1
+
+-- what a call on the nodes and their tables answers, a call on the store does, where the names stay
+pub answered : {X : Type 0} (rows : List (Refusal × Type 0)) (done : X → SymbolTables → Type 0) (all : X → Context → Type 0) (s t : Context) → t.names ≡ s.names → ((x : X) → done x t.tables → all x t)
+    → (r : Result X Refusal) → Answered rows done s.tables r t.tables → Answered rows all s r t
 answered rows done all s t same whole (Ok x) a = (a.0, whole x a.1)
 answered rows done all s t same whole (Err e) a = (a.0, same_context s t a.1 same)

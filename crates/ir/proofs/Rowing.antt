@@ -1,5 +1,5 @@
 -- From what the tests of a making answer to its rows. Assumes nothing.
-use Rattle.std.proofs.Common.{◌≡◌, ℕ, ◌<◌, true, false, List, length, Some, None, Ok, Option, sym, ap, ◌∙◌, subst, inl, inr, arith}
+use Rattle.std.proofs.Common.{◌≡◌, ℕ, ◌<◌, Bool, true, false, List, length, is_some, Some, None, Ok, Option, sym, refl, ap, ◌∙◌, subst, inl, inr, arith}
 use Rattle.std.proofs.lemmas.Bool.{ltb-false}
 use Rattle.records.specs.declared.kind.Kind.{Kind}
 use Rattle.records.specs.declared.making.MadeOperation.{MadeOperation}
@@ -20,6 +20,18 @@ use Rattle.ir.specs.Stores.{names, nodes}
 
 clash : true ≡ false → ⊥
 clash e = let z : ◌≡◌ {A = ℕ} 0 1 = cc in omega arith
+
+-- truth values that cannot differ are equal
+unless_not : (a b : Bool) → ((a ≡ b → ⊥) → ⊥) → a ≡ b
+unless_not true true h = refl
+unless_not true false h = absurd (h clash)
+unless_not false true h = absurd (h (λ e. clash (sym e)))
+unless_not false false h = refl
+
+-- there is an identifier exactly where a name is given
+given_some : (name : List ℕ) (id : Option Identifier) → Optional name (Ok id) → given name ≡ is_some id
+given_some name None h = h
+given_some name (Some n) h = h.0
 
 not_long : (name : List ℕ) (id : Option Identifier) → Optional name (Ok id) → 32 < length name → ⊥
 not_long name None h l = let z = ltb-false 0 (length name) h in omega arith
@@ -95,4 +107,9 @@ module _ (s : Context) (kind regions : ℕ) (name : List ℕ) (a : Admitted) (p 
     answer = m.answer ∙ ap (λ (n : ℕ). operation_made a.shape.kind n (nodes s)) p.shaped.2;
     after = m.after ∙ ap (λ (n : ℕ). with_operation a.shape.kind m.number n (nodes s)) p.shaped.2;
     kept = m.kept;
+    mapped = m.mapped;
   }
+
+  -- a symbol is made exactly where a name was given
+  pub symbol_named : a.shape.kind.symbol ≡ is_some a.name
+  symbol_named = unless_not _ _ (λ bad. p.shaped.0 (inr (inr (a.shape.kind, p.shaped.1, inr bad)))) ∙ given_some name a.name p.optional

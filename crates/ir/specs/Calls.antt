@@ -21,7 +21,7 @@ use Rattle.result.specs.declared.refusal.Refusal.{Refusal}
 use Rattle.result.specs.declared.refusal.Refusal.TheVariants.{BadShape, Dangling, MalformedIdentifier, NamesFull, NameTooLong, RecordsFull}
 use Rattle.result.specs.Rows.{Answered}
 use Rattle.ir.specs.declared.context.Context.{Context}
-use Rattle.ir.specs.Stores.{name_of, names, nodes}
+use Rattle.ir.specs.Stores.{mappings, name_of, names, nodes}
 
 -- a name of no bytes is no name
 abbrev pub given : List ℕ → Bool
@@ -61,7 +61,7 @@ abbrev pub Numbered : List (List ℕ) → List ℕ → Option ℕ → List (List
 Numbered before name None after = (given name ≡ false) × (after ≡ before)
 Numbered before name (Some number) after = (given name ≡ true) × Holding before name number after
 
--- the operation, its regions and, for a table, its body are made; the name is held; every live node stays as it was
+-- the operation, its regions and, for a table, its body are made; the name is held; every live node and all mappings stay as they were
 pub record OperationMade (s : Context) (kind regions : ℕ) (name : List ℕ) (r : MadeOperation) (t : Context) : Type 0 where
   pub is : Kind
   pub sum : kind_sum is ≡ kind
@@ -70,6 +70,7 @@ pub record OperationMade (s : Context) (kind regions : ℕ) (name : List ℕ) (r
   pub answer : r ≡ operation_made is regions (nodes s)
   pub after : nodes t ≡ with_operation is number regions (nodes s)
   pub kept : AllKept (nodes s) (nodes t)
+  pub mapped : mappings t ≡ mappings s
 
 -- making an operation of a kind, with so many regions and a name
 abbrev pub MakeOperationCall : Context → ℕ → ℕ → List ℕ → Result MadeOperation Refusal → Context → Type 0
@@ -79,10 +80,11 @@ MakeOperationCall s kind regions name r t = Answered (make_operation_rows s kind
 abbrev pub make_block_rows : Context → List (Refusal × Type 0)
 make_block_rows s = (RecordsFull, room (nodes s).blocks.pool ≡ 0) ∷ []
 
--- a block in no region is made; names and every live node stay
+-- a block in no region is made; names, mappings and every live node stay
 pub record NewBlock (s : Context) (r : BlockPtr) (t : Context) : Type 0 where
-  pub made : BlockMade s.forest r t.forest
+  pub made : BlockMade s.tables.forest r t.tables.forest
   pub held : names t ≡ names s
+  pub mapped : mappings t ≡ mappings s
 
 -- making a block
 abbrev pub MakeBlockCall : Context → Result BlockPtr Refusal → Context → Type 0
@@ -121,8 +123,9 @@ NameRead s op r = Answered (operation_rows s op) (λ x t. option_map (name_of (n
 
 -- the operation has the note; all else in the store stays
 pub record NoteSet (s : Context) (op : OpPtr) (note : ℕ) (t : Context) : Type 0 where
-  pub noted : Noted s.forest op note t.forest
+  pub noted : Noted s.tables.forest op note t.tables.forest
   pub held : names t ≡ names s
+  pub mapped : mappings t ≡ mappings s
 
 -- setting an operation's note
 abbrev pub SetNoteCall : Context → OpPtr → ℕ → Result (Unit {0}) Refusal → Context → Type 0

@@ -3,3 +3,5 @@ pub mod Stores
 pub mod Calls
 pub mod Steps
 pub mod Linkings
+pub mod Tables
+pub mod Erasings

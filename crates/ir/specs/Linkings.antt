@@ -1,5 +1,5 @@
 -- What linking and unlinking do to a store: the refusals in the order in which they are tested, and else the nodes after;
--- the names stay.
+-- the names and the mappings of symbol tables stay.
 use Rattle.std.specs.Prelude.{◌≡◌, Bool, false, [], ◌∷◌, is_some, Result}
 use Rattle.result.specs.declared.refusal.Refusal.{Refusal}
 use Rattle.result.specs.declared.refusal.Refusal.TheVariants.{Dangling}
@@ -12,12 +12,13 @@ use Rattle.records.specs.declared.handles.RegionPtr.{RegionPtr}
 use Rattle.records.specs.Views.{block_links, op_links}
 use Rattle.forest.specs.Linkings.{BlockLinked, BlockUnlinked, OpLinked, OpUnlinked, link_block_rows, link_op_rows, unlink_block_rows, unlink_op_rows}
 use Rattle.ir.specs.declared.context.Context.{Context}
-use Rattle.ir.specs.Stores.{names, nodes}
+use Rattle.ir.specs.Stores.{mappings, names, nodes}
 
 -- the operation stands at the spot among the children of its block; all else stays
 pub record OpInserted (s : Context) (op : OpPtr) (spot : Spot OpPtr BlockPtr) (t : Context) : Type 0 where
   pub linked : OpLinked (nodes s) op spot (nodes t)
   pub held : names t ≡ names s
+  pub mapped : mappings t ≡ mappings s
 
 -- linking an operation at a spot
 abbrev pub InsertOpCall : Context → OpPtr → Spot OpPtr BlockPtr → Result (Unit {0}) Refusal → Context → Type 0
@@ -27,6 +28,7 @@ InsertOpCall s op spot r t = Answered (link_op_rows (nodes s) op spot) (λ _ u. 
 pub record BlockInserted (s : Context) (block : BlockPtr) (spot : Spot BlockPtr RegionPtr) (t : Context) : Type 0 where
   pub linked : BlockLinked (nodes s) block spot (nodes t)
   pub held : names t ≡ names s
+  pub mapped : mappings t ≡ mappings s
 
 -- linking a block at a spot
 abbrev pub InsertBlockCall : Context → BlockPtr → Spot BlockPtr RegionPtr → Result (Unit {0}) Refusal → Context → Type 0
@@ -36,6 +38,7 @@ InsertBlockCall s block spot r t = Answered (link_block_rows (nodes s) block spo
 pub record OpTaken (s : Context) (op : OpPtr) (t : Context) : Type 0 where
   pub unlinked : OpUnlinked (nodes s) op (nodes t)
   pub held : names t ≡ names s
+  pub mapped : mappings t ≡ mappings s
 
 -- unlinking an operation
 abbrev pub UnlinkOpCall : Context → OpPtr → Result (Unit {0}) Refusal → Context → Type 0
@@ -45,6 +48,7 @@ UnlinkOpCall s op r t = Answered (unlink_op_rows (nodes s) op) (λ _ u. OpTaken 
 pub record BlockTaken (s : Context) (block : BlockPtr) (t : Context) : Type 0 where
   pub unlinked : BlockUnlinked (nodes s) block (nodes t)
   pub held : names t ≡ names s
+  pub mapped : mappings t ≡ mappings s
 
 -- unlinking a block
 abbrev pub UnlinkBlockCall : Context → BlockPtr → Result (Unit {0}) Refusal → Context → Type 0

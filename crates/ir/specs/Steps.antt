@@ -11,7 +11,7 @@ use Rattle.result.specs.Rows.{NoRow, Uppermost}
 use Rattle.ir.specs.declared.context.Context.{Context}
 use Rattle.ir.specs.declared.making.Admitted.{Admitted}
 use Rattle.ir.specs.Calls.{Holding, given, make_operation_rows}
-use Rattle.ir.specs.Stores.{names, nodes}
+use Rattle.ir.specs.Stores.{mappings, names, nodes}
 
 -- the identifier of a name, if one is given
 abbrev pub Optional : List ℕ → Result (Option Identifier) Refusal → Type 0
@@ -37,6 +37,7 @@ pub record AdmittedMade (s : Context) (a : Admitted) (r : MadeOperation) (t : Co
   pub answer : r ≡ operation_made a.shape.kind a.shape.count (nodes s)
   pub after : nodes t ≡ with_operation a.shape.kind number a.shape.count (nodes s)
   pub kept : AllKept (nodes s) (nodes t)
+  pub mapped : mappings t ≡ mappings s
 
 -- a making that no row refuses, and what it makes
 pub record AdmittedFor (s : Context) (kind regions : ℕ) (name : List ℕ) (a : Admitted) : Type 0 where

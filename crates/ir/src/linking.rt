@@ -46,14 +46,14 @@ impl Context {
     pub fn insert_op(&mut self, op: OpPtr, spot: Spot<OpPtr, BlockPtr>) -> Result<(), Refusal>
         ensures { InsertOpCall self.old op spot result self.new }
     {
-        self.forest.link_op(op, spot)
+        self.tables.link_op(op, spot)
     }
 
     // Unlinks an operation from its block.
     pub fn unlink_op(&mut self, op: OpPtr) -> Result<(), Refusal>
         ensures { UnlinkOpCall self.old op result self.new }
     {
-        self.forest.unlink_op(op)
+        self.tables.unlink_op(op)
     }
 
     // Whether an operation stands in a block.
@@ -61,7 +61,7 @@ impl Context {
     pub fn is_op_linked(&self, op: OpPtr) -> Result<bool, Refusal>
         ensures { OpIsLinked self.now op result }
     {
-        let operation = self.forest.get(op).ok_or(Refusal::Dangling)?;
+        let operation = self.tables.forest().get(op).ok_or(Refusal::Dangling)?;
         Ok(operation.container.is_some())
     }
 
@@ -109,14 +109,14 @@ impl Context {
     ) -> Result<(), Refusal>
         ensures { InsertBlockCall self.old block spot result self.new }
     {
-        self.forest.link_block(block, spot)
+        self.tables.link_block(block, spot)
     }
 
     // Unlinks a block from its region.
     pub fn unlink_block(&mut self, block: BlockPtr) -> Result<(), Refusal>
         ensures { UnlinkBlockCall self.old block result self.new }
     {
-        self.forest.unlink_block(block)
+        self.tables.unlink_block(block)
     }
 
     // Whether a block stands in a region.
@@ -124,25 +124,25 @@ impl Context {
     pub fn is_block_linked(&self, block: BlockPtr) -> Result<bool, Refusal>
         ensures { BlockIsLinked self.now block result }
     {
-        let block = self.forest.get(block).ok_or(Refusal::Dangling)?;
+        let block = self.tables.forest().get(block).ok_or(Refusal::Dangling)?;
         Ok(block.container.is_some())
     }
 
     // The operations of a block, to be gone through from either end.
     pub fn iter_ops(&self, block: BlockPtr) -> Result<OpIter<'_>, Refusal>
         ensures { MatchResult result
-            (λ it. NoRow (iter_rows (ops_in self.now.forest) block) × Starts ops_in self.now.forest block it.forest.now it.left)
-            (λ e. Uppermost (iter_rows (ops_in self.now.forest) block) e) }
+            (λ it. NoRow (iter_rows (ops_in self.now.tables.forest) block) × Starts ops_in self.now.tables.forest block it.forest.now it.left)
+            (λ e. Uppermost (iter_rows (ops_in self.now.tables.forest) block) e) }
     {
-        self.forest.iter_ops(block)
+        self.tables.forest().iter_ops(block)
     }
 
     // The blocks of a region, to be gone through from either end.
     pub fn iter_blocks(&self, region: RegionPtr) -> Result<BlockIter<'_>, Refusal>
         ensures { MatchResult result
-            (λ it. NoRow (iter_rows (blocks_in self.now.forest) region) × Starts blocks_in self.now.forest region it.forest.now it.left)
-            (λ e. Uppermost (iter_rows (blocks_in self.now.forest) region) e) }
+            (λ it. NoRow (iter_rows (blocks_in self.now.tables.forest) region) × Starts blocks_in self.now.tables.forest region it.forest.now it.left)
+            (λ e. Uppermost (iter_rows (blocks_in self.now.tables.forest) region) e) }
     {
-        self.forest.iter_blocks(region)
+        self.tables.forest().iter_blocks(region)
     }
 }

@@ -1,5 +1,5 @@
 // Building a store, and making operations and blocks in it.
-ghost use Rattle.std.specs.Prelude.{◌≡◌, IfOk, MatchBool};
+ghost use Rattle.std.specs.Prelude.{◌≡◌, IfOk, MatchBool, is_some};
 ghost use Rattle.records.specs.Makings.{Roomy};
 ghost use Rattle.names.specs.Held.{held};
 ghost use Rattle.ir.specs.Calls.{MakeBlockCall, MakeOperationCall};
@@ -7,12 +7,12 @@ ghost use Rattle.ir.specs.Steps.{Admits, AdmittedMade, Full, NumberGiven, Option
 ghost use Rattle.ir.specs.Stores.{Built, names, nodes};
 
 use crate::context::Context;
-use forest::Forest;
 use identifier::Identifier;
 use names::Names;
 use records::{BlockPtr, MadeOperation, Shape};
 use result::Refusal;
 use std::alloc::{AllocError, Global};
+use symbol_table::SymbolTables;
 
 // What a making that no row refuses makes.
 #[derive(Clone, Copy)]
@@ -44,16 +44,16 @@ impl Context {
     pub fn new(heap: Global) -> Result<Context, AllocError>
         ensures { IfOk result (λ s. Built s) }
     {
-        let forest = Forest::new(heap)?;
+        let tables = SymbolTables::new(heap)?;
         let names = Names::new(heap)?;
-        Ok(Context { forest, names })
+        Ok(Context { tables, names })
     }
 
     // Makes a block that stands in no region.
     pub fn make_block(&mut self) -> Result<BlockPtr, Refusal>
         ensures { MakeBlockCall self.old result self.new }
     {
-        self.forest.make_block()
+        self.tables.make_block()
     }
 
     // Whether the name, if there is one, is held or can be.
@@ -77,7 +77,7 @@ impl Context {
         if !self.can_hold(identifier) {
             return Err(Refusal::NamesFull);
         }
-        if !self.forest.has_room(shape) {
+        if !self.tables.forest().has_room(shape) {
             return Err(Refusal::RecordsFull);
         }
         Ok(Admitted {
@@ -89,11 +89,12 @@ impl Context {
     // Holds the name, if there is one, and makes the operation.
     fn make_admitted(&mut self, admitted: Admitted) -> MadeOperation
         requires holds { Full (names self.old) admitted.name → ⊥ }
+        requires named { admitted.shape.kind.symbol ≡ is_some admitted.name }
         requires roomy { Roomy admitted.shape.kind admitted.shape.count (nodes self.old) }
         ensures { AdmittedMade self.old admitted result self.new }
     {
         let number = hold_name(&mut self.names, admitted.name);
-        self.forest.make_operation(admitted.shape, number).unwrap()
+        self.tables.make_operation(admitted.shape, number).unwrap()
     }
 
     // Makes an operation of this kind (a sum of 1 for a table, 2 for a symbol and 4 for a terminator) with so many regions

@@ -13,7 +13,7 @@ impl Context {
     fn operation(&self, op: OpPtr) -> Result<Operation, Refusal>
         ensures { Reads self.now op (λ o. o) result }
     {
-        self.forest.get(op).ok_or(Refusal::Dangling)
+        self.tables.forest().get(op).ok_or(Refusal::Dangling)
     }
 
     // What the operation is.
@@ -60,14 +60,14 @@ impl Context {
     pub fn set_note(&mut self, op: OpPtr, note: u32) -> Result<(), Refusal>
         ensures { SetNoteCall self.old op note result self.new }
     {
-        self.forest.set_note(op, note)
+        self.tables.set_note(op, note)
     }
 
     // How many operations were ever made.
     pub fn operations_made(&self) -> u64
         ensures { result ≡ (nodes self.now).operations.pool.taken }
     {
-        self.forest.operations_made()
+        self.tables.forest().operations_made()
     }
 
     // How many names are held.

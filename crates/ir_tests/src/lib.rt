@@ -5,3 +5,5 @@
 mod linking;
 #[cfg(test)]
 mod making;
+#[cfg(test)]
+mod tables;

@@ -1,4 +1,7 @@
-use Rattle.std.proofs.Common.{refl, rules}
+use Rattle.std.proofs.Common.{refl, rules, subst}
+use Rattle.records.specs.Makings.{Roomy}
+use Rattle.forest.specs.declared.forest.Forest.{Forest}
+use Rattle.forest.specs.Forests.{model}
 use Rattle.ir.proofs.Rowing.{Passed, names_full, records_full}
 use Rattle.ir.proofs.context.Context.admit.Goals as goal
 use Rattle.ir.proofs.context.Context.admit.Goals.{In_ok-identifier}
@@ -14,4 +17,5 @@ returns-then-not-can_hold c =
 pub returns-then-not-has_room : goal.returns-then-not-has_room
 returns-then-not-has_room c =
     records_full c.args.self.now c.args.kind c.args.regions c.args.name.now c.in_ok-shape.shape c.in_ok-identifier.identifier
-    (passed (goal.at.returns-then-not-has_room c).In_ok-identifier) _ refl c.if-not-can_hold.ensures c.if-not-has_room.ensures
+    (passed (goal.at.returns-then-not-has_room c).In_ok-identifier) _ refl c.if-not-can_hold.ensures
+    (subst (λ (f : Forest). Roomy c.in_ok-shape.shape.kind c.in_ok-shape.shape.count (model f) → ⊥) c.forest.ensures c.if-not-has_room.ensures)
