@@ -1,10 +1,19 @@
 // Small passes over a store: how its calls are used from outside.
 #![tactic(auto)]
 
+mod holding;
+mod numbering;
+mod stepping;
+mod subtree;
+
 ghost use Rattle.passes.specs.Firsts.{FirstTaken};
 
+pub use holding::unlink_first_by_walk;
 use ir::{BlockPtr, Context, OpPtr};
+pub use numbering::Numberer;
 use result::Refusal;
+pub use stepping::walk_by_steps;
+pub use subtree::number_operations;
 
 // Unlinks the first operation of a block, if it has one. The iterator ends before the store is edited.
 pub fn unlink_first(context: &mut Context, block: BlockPtr) -> Result<Option<OpPtr>, Refusal>

@@ -1,0 +1,3 @@
+-- What the contract of this crate cites.
+pub mod Examples
+pub mod EdgeCases

@@ -1,0 +1,4 @@
+-- The lemmas of this crate.
+pub mod Stepped
+pub mod Seconds
+pub mod Counting
