@@ -1,5 +1,11 @@
+mod Done
+mod Finding
 mod Following
+mod Keeping
+mod Looking
 mod Making
 mod Named
 mod Once
 mod Printing
+mod Shown
+mod Steered

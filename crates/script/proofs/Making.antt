@@ -1,7 +1,9 @@
 -- What a making leaves of a session, and what it answers.
-use Rattle.std.proofs.Common.{◌≡◌, ℕ, ◌+◌, ◌-◌, ◌%◌, take, drop, length-drop, ◌<◌, ◌≤◌, Bool, true, false, List, [], ◌∷◌, length, Some, None, Option, MatchOption, Ok, sym, refl, ap, ◌∙◌, subst, inl, inr, arith}
+use Rattle.std.proofs.Common.{◌≡◌, ℕ, ◌+◌, ◌-◌, ◌%◌, take, drop, length-drop, ◌<◌, ◌≤◌, Bool, true, false, List, [], ◌∷◌, length, Some, None, Option, MatchOption, Ok, Err, Result, sym, refl, ap, ◌∙◌, subst, inl, inr, arith}
 use Rattle.std.proofs.lemmas.List.{take_all}
 use Rattle.result.specs.declared.refusal.Refusal.{Refusal}
+use Rattle.std.specs.Result.{IsErrAnd}
+use Rattle.result.specs.Rows.{Uppermost}
 use Rattle.std.specs.Option.{option_to_list}
 use Rattle.records.specs.declared.handles.BlockPtr.{BlockPtr}
 use Rattle.records.specs.declared.handles.RegionPtr.{RegionPtr}
@@ -11,7 +13,7 @@ use Rattle.records.specs.Models.{Model}
 use Rattle.records.specs.Shapes.{worth}
 use Rattle.records.proofs.Regions.{ptrs_long}
 use Rattle.ir.specs.declared.context.Context.{Context}
-use Rattle.ir.specs.Calls.{MakeOperationCall}
+use Rattle.ir.specs.Calls.{MakeOperationCall, make_operation_rows}
 use Rattle.ir.specs.Stores.{nodes}
 use Rattle.script.specs.declared.node.Node.{Node}
 use Rattle.script.specs.declared.node.Close.{Close}
@@ -20,7 +22,7 @@ use Rattle.script.specs.Prints.{Answer, refused, done}
 use Rattle.script.specs.declared.tag.Tag.TheVariants.{MakeOperation}
 use Rattle.script.specs.Makes.{kind_in, regions_in, name_in, operation_making, NumbersOut, OperationFieldMade}
 use Rattle.script.specs.Sessions.{next_block, next_region}
-use Rattle.script.specs.Runs.{Answers, OperationRun, TagRun}
+use Rattle.script.specs.Runs.{Answers, OperationRun, TagRun, answer_of}
 
 -- a row on top whose condition does not hold changes nothing
 pub below : (row : Refusal × Type 0) (rows : List (Refusal × Type 0)) (does : List Node → Close → Session → Type 0) (s : Session) (a : Answer) (t : Session)
@@ -81,3 +83,9 @@ regions_left s kind regs name made t own room answered is =
     let left : 512 < next_region s + regs → ⊥ = λ h. room (answered.0.0, inr (inr h)) in
     let same : length own ≡ length made.regions = ap length is in
     omega arith
+
+-- an operation is refused as the store refuses it where there are numbers for it
+pub making_refused : (s u : Session) (kind regs : ℕ) (name : List ℕ) (e : Refusal) (shown : List Node) (r : Result Close Refusal) → (NumbersOut s kind regs name → ⊥)
+    → Uppermost (make_operation_rows s.context kind regs name) e → u ≡ s → IsErrAnd r (λ f. f ≡ e) → OperationRun s kind regs name (answer_of shown r) u
+making_refused s u kind regs name e shown (Ok x) room h same err = absurd err
+making_refused s u kind regs name e shown (Err f) room h same err = (subst (λ g. Uppermost (operation_making s kind regs name) g) (sym err) (inr (room, h)), same)

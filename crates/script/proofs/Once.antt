@@ -1,22 +1,30 @@
 -- The line call has one answer.
-use Rattle.std.proofs.Common.{◌≡◌, ℕ, ◌<◌, List, [], ◌∷◌, ◌++◌, length, drop, get_or, Option, Result, sym, refl, ap, ◌∙◌, subst, inl, inr, arith}
+use Rattle.std.proofs.Common.{◌≡◌, ℕ, ◌<◌, List, [], ◌∷◌, ◌++◌, length, drop, get_or, Option, Ok, Result, sym, refl, ap, ◌∙◌, subst, inl, inr, arith}
 use Rattle.std.specs.Option.{option_to_list}
 use Rattle.result.specs.declared.refusal.Refusal.{Refusal}
 use Rattle.result.proofs.Rows.{no_row, one_row}
 use Rattle.records.specs.declared.kind.Kind.{Kind}
 use Rattle.records.specs.declared.handles.BlockPtr.{BlockPtr}
+use Rattle.records.specs.declared.handles.OpPtr.{OpPtr}
 use Rattle.records.specs.declared.making.MadeOperation.{MadeOperation}
 use Rattle.records.specs.Makings.{operation_made}
 use Rattle.records.proofs.Sums.{one_kind}
+use Rattle.linked_list.proofs.Lists.{some_same}
+use Rattle.orders.specs.Logs.{Shown, nodes as shown_nodes}
+use Rattle.records.specs.declared.ir_node.IRNode.{IRNode}
+use Rattle.walkers.specs.Walks.{WalkedIn}
 use Rattle.ir.specs.declared.context.Context.{Context}
+use Rattle.ir.specs.Erasings.{EraseBlockCall, EraseOpCall}
 use Rattle.ir.specs.Linkings.{InsertBlockCall, InsertOpCall, UnlinkBlockCall, UnlinkOpCall}
+use Rattle.ir.specs.Tables.{InsertSymbolCall, LookupCall, NearestLookupCall, RemoveSymbolCall}
 use Rattle.ir.specs.Stores.{nodes}
 use Rattle.script.specs.declared.node.Node.{Node}
 use Rattle.script.specs.declared.node.Node.TheVariants.{Operation, Block, Region}
 use Rattle.script.specs.declared.node.Close.{Close}
 use Rattle.script.specs.declared.session.Session.{Session}
 use Rattle.script.specs.declared.tag.Tag.{Tag}
-use Rattle.script.specs.declared.tag.Tag.TheVariants.{MakeOperation, MakeBlock, LinkOperation, LinkBlock, UnlinkOperation, UnlinkBlock}
+use Rattle.script.specs.declared.tag.Tag.TheVariants.{MakeOperation, MakeBlock, LinkOperation, LinkBlock, UnlinkOperation, UnlinkBlock, InsertSymbol, RemoveSymbol, EraseOperation, EraseBlock, Lookup, NearestLookup, Walk}
+use Rattle.script.specs.declared.steering.Steering.{Steering}
 use Rattle.script.specs.declared.line.Line.{Line}
 use Rattle.script.specs.declared.line.Line.TheVariants as line
 use Rattle.script.specs.Prints.{Answer, refused, done, Lined, line_bytes}
@@ -26,6 +34,13 @@ use Rattle.script.specs.Numbers.{nodes_from}
 use Rattle.script.specs.Sessions.{operations, blocks, regions, next_operation, next_block, next_region}
 use Rattle.script.specs.Makes.{kind_in, regions_in, name_in, operation_field_rows, block_field_rows, OperationFieldMade, BlockFieldMade}
 use Rattle.script.specs.Linkings.{Edited, operation_link, block_link, node_named, operation_link_rows, block_link_rows, operation_unlink_rows, block_unlink_rows, OperationFieldLinked, BlockFieldLinked, OperationFieldUnlinked, BlockFieldUnlinked}
+use Rattle.script.specs.Erasings.{operation_erase_rows, block_erase_rows, OperationFieldErased, BlockFieldErased}
+use Rattle.script.specs.Symbols.{insert_named, pair_named, symbol_insert_rows, symbol_remove_rows, SymbolFieldInserted, SymbolFieldRemoved}
+use Rattle.script.specs.Lookups.{LookedUp, LookedUpInNearest, LookedUpInTable, Tells, name_sought, nearest_table_lookup_rows, table_lookup_rows}
+use Rattle.script.proofs.Looking.{one_lookup, one_nearest_lookup, one_telling}
+use Rattle.script.specs.Answers.{Steered}
+use Rattle.script.specs.Walks.{FieldWalked, HaveNumbers, close_of, config_asked, walk_rows}
+use Rattle.script.proofs.Shown.{one_numbers, one_walk}
 use Rattle.script.specs.Runs.{Answers, TagRun, ByteRun, FieldRun, Alike, OneLine}
 
 -- two answers to a field that are one, with the same handles under the same numbers after
@@ -103,6 +118,24 @@ edit_once named call s ns ms c d t u h k = record {
   regions_too = h.regions_stay ∙ sym k.regions_stay;
 }
 
+-- a lookup finds one operation or none, and changes nothing
+lookup_once : (named : Option OpPtr) (call : OpPtr → Result (Option OpPtr) Refusal → Type 0) (s : Session) (ns ms : List Node) (c d : Close) (t u : Session) → ((op : OpPtr) (x y : Option OpPtr) → call op (Ok x) → call op (Ok y) → x ≡ y)
+    → LookedUp named call s ns c t → LookedUp named call s ms d u → One (done ns c) t (done ms d) u
+lookup_once named call s ns ms c d t u once h k =
+    let op : k.op ≡ h.op = some_same (sym k.names ∙ h.names) in
+    let found : h.found ≡ k.found = once h.op h.found k.found h.answers (subst (λ (o : OpPtr). call o (Ok k.found)) op k.answers) in
+    let told = one_telling s k.found ns ms c d (subst (λ (o : Option OpPtr). Tells s o ns c) found h.tells) k.tells in
+    still s (done ns c) (done ms d) t u (same_done ns ms c d told.0 told.1) h.kept k.kept
+
+-- a walk shows one list of nodes, and changes nothing
+walk_once : (s : Session) (v : List ℕ) (ns ms : List Node) (c d : Close) (t u : Session) → FieldWalked s v ns c t → FieldWalked s v ms d u → One (done ns c) t (done ms d) u
+walk_once s v ns ms c d t u h k =
+    let asked : h.asked ≡ k.asked = some_same (sym h.names ∙ k.names) in
+    let steered : Steered h.asked.1.skip h.asked.1.end k.log = subst (λ (w : IRNode × Steering). Steered w.1.skip w.1.end k.log) (sym asked) k.answers in
+    let same = one_walk s.context (config_asked v) h.asked.0 h.asked.1.skip h.asked.1.end h.log k.log h.says k.says h.walked (subst (λ (w : IRNode × Steering). WalkedIn s.context (config_asked v) w.0 k.log k.says) (sym asked) k.walked) h.answers steered in
+    let shown : ns ≡ ms = one_numbers s (shown_nodes k.log) ns ms (subst (λ (l : List (Shown IRNode (Unit {0}))). HaveNumbers s (shown_nodes l) ns) same.0 h.numbers) k.numbers in
+    still s (done ns c) (done ms d) t u (same_done ns ms c d shown (h.closed ∙ ap close_of same.1 ∙ sym k.closed)) h.kept k.kept
+
 tag_once : (s : Session) (g : Tag) (v : List ℕ) (a b : Answer) (t u : Session) → TagRun s g v a t → TagRun s g v b u → One a t b u
 tag_once s MakeOperation v a b t u h k =
     one_answer (operation_field_rows s v) (OperationFieldMade s (kind_in v) (regions_in v) (name_in v)) s a b t u
@@ -121,10 +154,32 @@ tag_once s UnlinkOperation v a b t u h k =
 tag_once s UnlinkBlock v a b t u h k =
     one_answer (block_unlink_rows s v) (BlockFieldUnlinked s v) s a b t u
     (λ ns ms c d. edit_once (node_named (blocks s) v) (UnlinkBlockCall s.context) s ns ms c d t u) h k
+tag_once s InsertSymbol v a b t u h k =
+    one_answer (symbol_insert_rows s v) (SymbolFieldInserted s v) s a b t u
+    (λ ns ms c d. edit_once (insert_named s v) (λ p. InsertSymbolCall s.context p.0.0 p.0.1 p.1) s ns ms c d t u) h k
+tag_once s RemoveSymbol v a b t u h k =
+    one_answer (symbol_remove_rows s v) (SymbolFieldRemoved s v) s a b t u
+    (λ ns ms c d. edit_once (pair_named s v) (λ p. RemoveSymbolCall s.context p.0 p.1) s ns ms c d t u) h k
+tag_once s EraseOperation v a b t u h k =
+    one_answer (operation_erase_rows s v) (OperationFieldErased s v) s a b t u
+    (λ ns ms c d. edit_once (node_named (operations s) v) (EraseOpCall s.context) s ns ms c d t u) h k
+tag_once s EraseBlock v a b t u h k =
+    one_answer (block_erase_rows s v) (BlockFieldErased s v) s a b t u
+    (λ ns ms c d. edit_once (node_named (blocks s) v) (EraseBlockCall s.context) s ns ms c d t u) h k
+tag_once s Lookup v a b t u h k =
+    one_answer (table_lookup_rows s v) (LookedUpInTable s v) s a b t u
+    (λ ns ms c d. lookup_once (node_named (operations s) v) (λ o. LookupCall s.context o (name_sought v)) s ns ms c d t u (one_lookup s.context (name_sought v))) h k
+tag_once s NearestLookup v a b t u h k =
+    one_answer (nearest_table_lookup_rows s v) (LookedUpInNearest s v) s a b t u
+    (λ ns ms c d. lookup_once (node_named (operations s) v) (λ o. NearestLookupCall s.context o (name_sought v)) s ns ms c d t u (one_nearest_lookup s.context (name_sought v))) h k
+tag_once s Walk v a b t u h k =
+    one_answer (walk_rows s v) (FieldWalked s v) s a b t u (λ ns ms c d. walk_once s v ns ms c d t u) h k
 
--- the tags by their bytes; no tag has the byte 0
+-- the tags by their bytes; the first tag stands where no tag has the byte
 tags : List Tag
-tags = MakeOperation ∷ MakeOperation ∷ MakeBlock ∷ LinkOperation ∷ LinkBlock ∷ UnlinkOperation ∷ UnlinkBlock ∷ []
+tags =
+    MakeOperation ∷ MakeOperation ∷ MakeBlock ∷ LinkOperation ∷ LinkBlock ∷ UnlinkOperation ∷ UnlinkBlock ∷ InsertSymbol
+    ∷ RemoveSymbol ∷ MakeOperation ∷ EraseOperation ∷ EraseBlock ∷ Lookup ∷ NearestLookup ∷ Walk ∷ []
 
 found : (g : Tag) → get_or tags (code g) MakeOperation ≡ g
 unfolding tags
@@ -134,6 +189,13 @@ found LinkOperation = refl
 found LinkBlock = refl
 found UnlinkOperation = refl
 found UnlinkBlock = refl
+found InsertSymbol = refl
+found RemoveSymbol = refl
+found EraseOperation = refl
+found EraseBlock = refl
+found Lookup = refl
+found NearestLookup = refl
+found Walk = refl
 
 -- a tag has a byte of its own, which is listed
 one_tag : (g h : Tag) → code g ≡ code h → g ≡ h
@@ -146,6 +208,13 @@ listed LinkOperation h = h.2 refl
 listed LinkBlock h = h.3 refl
 listed UnlinkOperation h = h.4 refl
 listed UnlinkBlock h = h.5 refl
+listed InsertSymbol h = h.6 refl
+listed RemoveSymbol h = h.7 refl
+listed EraseOperation h = h.8 refl
+listed EraseBlock h = h.9 refl
+listed Lookup h = h.10 refl
+listed NearestLookup h = h.11 refl
+listed Walk h = h.12 refl
 
 byte_once : (s : Session) (n : ℕ) (v : List ℕ) (a b : Answer) (t u : Session) → ByteRun s n v a t → ByteRun s n v b u → One a t b u
 unfolding ByteRun

@@ -4,6 +4,14 @@ pub mod Printers
 pub mod Sessions
 pub mod Tags
 pub mod Numbers
+pub mod Found
 pub mod Makes
 pub mod Linkings
+pub mod Erasings
+pub mod Answers
+pub mod Walks
+pub mod Symbols
+pub mod Lookups
+pub mod Listed
+pub mod Trails
 pub mod Runs

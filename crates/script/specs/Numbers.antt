@@ -1,10 +1,7 @@
 -- How nodes get their numbers.
-use Rattle.std.specs.Prelude.{◌≡◌, ℕ, ◌+◌, List, [], ◌∷◌, ◌++◌, map, length, vec_items, vec_len}
+use Rattle.std.specs.Prelude.{◌≡◌, ℕ, suc, ◌+◌, List, [], ◌∷◌, ◌++◌, map, length, vec_items, vec_len, slice_set}
 use Rattle.std.specs.List.{range_with_len}
 use Rattle.std.specs.Option.{option_to_list}
-use Rattle.records.specs.declared.handles.OpPtr.{OpPtr}
-use Rattle.records.specs.declared.handles.BlockPtr.{BlockPtr}
-use Rattle.records.specs.declared.handles.RegionPtr.{RegionPtr}
 use Rattle.records.specs.declared.making.MadeOperation.{MadeOperation}
 use Rattle.script.specs.declared.node.Node.{Node}
 use Rattle.script.specs.declared.node.Node.TheVariants.{Operation, Block, Region}
@@ -16,21 +13,18 @@ use Rattle.script.specs.Sessions.{operations, blocks, regions, next_operation, n
 abbrev pub nodes_from : (ℕ → Node) → ℕ → ℕ → List Node
 nodes_from kind n size = map kind (range_with_len n size)
 
+-- the numbers given last at each place, after these handles got the numbers from n on
+abbrev pub latest_from : {T : Type 0} → (T → ℕ) → ℕ → List T → List ℕ → List ℕ
+latest_from place n [] latest = latest
+latest_from place n (x ∷ xs) latest = latest_from place (suc n) xs (slice_set latest (place x) n)
+
 -- the handles new get the next numbers of their kind, and their nodes stand behind those listed before
-pub record Numbered {T : Type 0} (kind : ℕ → Node) (new : List T) (before after : Numbers T) (nodes nodes' : List Node) : Type 0 where
+pub record Numbered {T : Type 0} (kind : ℕ → Node) (place : T → ℕ) (new : List T) (before after : Numbers T) (nodes nodes' : List Node) : Type 0 where
   pub items : vec_items after.handles ≡ vec_items before.handles ++ new
   pub len : vec_len after.handles ≡ vec_len before.handles + length new
+  pub latest : vec_items after.latest ≡ latest_from place (vec_len before.handles) new (vec_items before.latest)
   pub more : length nodes' ≡ length nodes + length new
   pub shown : nodes' ≡ nodes ++ nodes_from kind (vec_len before.handles) (length new)
-
--- operations, regions and blocks get the next numbers, and their nodes are listed in this order
-pub record AllNumbered (s : Session) (ops : List OpPtr) (regs : List RegionPtr) (bodies : List BlockPtr) (nodes : List Node) (t : Session) : Type 0 where
-  pub operations_too : operations t ≡ operations s ++ ops
-  pub regions_too : regions t ≡ regions s ++ regs
-  pub blocks_too : blocks t ≡ blocks s ++ bodies
-  pub shown : nodes
-      ≡ nodes_from Operation (next_operation s) (length ops)
-      ++ (nodes_from Region (next_region s) (length regs) ++ nodes_from Block (next_block s) (length bodies))
 
 -- what was made with an operation gets the next numbers, and is shown: the operation, its regions in order and its body
 pub record MadeNumbers (s : Session) (made : MadeOperation) (nodes : List Node) (t : Session) : Type 0 where

@@ -7,7 +7,7 @@ use Rattle.script.specs.declared.node.Node.{Node}
 use Rattle.script.specs.declared.node.Close.{Close}
 use Rattle.script.specs.declared.session.Session.{Session}
 use Rattle.script.specs.declared.tag.Tag.{Tag}
-use Rattle.script.specs.declared.tag.Tag.TheVariants.{MakeOperation, MakeBlock, LinkOperation, LinkBlock, UnlinkOperation, UnlinkBlock}
+use Rattle.script.specs.declared.tag.Tag.TheVariants.{MakeOperation, MakeBlock, LinkOperation, LinkBlock, UnlinkOperation, UnlinkBlock, InsertSymbol, RemoveSymbol, EraseOperation, EraseBlock, Lookup, NearestLookup, Walk}
 use Rattle.script.specs.declared.line.Line.{Line}
 use Rattle.script.specs.declared.line.Line.TheVariants as line
 use Rattle.script.specs.Prints.{Answer, refused, done, Lined}
@@ -15,6 +15,10 @@ use Rattle.script.specs.Fields.{tag_at, value_at, next_at, Cut}
 use Rattle.script.specs.Sessions.{operations, blocks, regions}
 use Rattle.script.specs.Tags.{code, Unlisted}
 use Rattle.script.specs.Makes.{kind_in, regions_in, name_in, operation_making, operation_field_rows, block_field_rows, OperationFieldMade, BlockFieldMade}
+use Rattle.script.specs.Erasings.{operation_erase_rows, block_erase_rows, OperationFieldErased, BlockFieldErased}
+use Rattle.script.specs.Symbols.{symbol_insert_rows, symbol_remove_rows, SymbolFieldInserted, SymbolFieldRemoved}
+use Rattle.script.specs.Lookups.{table_lookup_rows, nearest_table_lookup_rows, LookedUpInTable, LookedUpInNearest}
+use Rattle.script.specs.Walks.{walk_rows, FieldWalked}
 use Rattle.script.specs.Linkings.{operation_link_rows, block_link_rows, operation_unlink_rows, block_unlink_rows, OperationFieldLinked, BlockFieldLinked, OperationFieldUnlinked, BlockFieldUnlinked}
 
 -- the uppermost row whose condition holds is given, and the session stays; where no condition holds, the field is done
@@ -39,6 +43,13 @@ TagRun s LinkOperation v a t = Answers (operation_link_rows s v) (OperationField
 TagRun s LinkBlock v a t = Answers (block_link_rows s v) (BlockFieldLinked s v) s a t
 TagRun s UnlinkOperation v a t = Answers (operation_unlink_rows s v) (OperationFieldUnlinked s v) s a t
 TagRun s UnlinkBlock v a t = Answers (block_unlink_rows s v) (BlockFieldUnlinked s v) s a t
+TagRun s InsertSymbol v a t = Answers (symbol_insert_rows s v) (SymbolFieldInserted s v) s a t
+TagRun s RemoveSymbol v a t = Answers (symbol_remove_rows s v) (SymbolFieldRemoved s v) s a t
+TagRun s EraseOperation v a t = Answers (operation_erase_rows s v) (OperationFieldErased s v) s a t
+TagRun s EraseBlock v a t = Answers (block_erase_rows s v) (BlockFieldErased s v) s a t
+TagRun s Lookup v a t = Answers (table_lookup_rows s v) (LookedUpInTable s v) s a t
+TagRun s NearestLookup v a t = Answers (nearest_table_lookup_rows s v) (LookedUpInNearest s v) s a t
+TagRun s Walk v a t = Answers (walk_rows s v) (FieldWalked s v) s a t
 
 -- the byte is no tag's, and nothing is done
 pub record Unknown (s : Session) (b : ℕ) (a : Answer) (t : Session) : Type 0 where

@@ -40,12 +40,10 @@ impl Session {
             return Err(Refusal::NumberingFull);
         }
         let made = self.context.make_operation(kind, regions, name)?;
-        self.number(
-            &[made.operation],
-            made.regions.as_slice(),
-            made.body.as_slice(),
-            nodes,
-        );
+        nodes.clear();
+        self.operations.number(&[made.operation], nodes);
+        self.regions.number(made.regions.as_slice(), nodes);
+        self.blocks.number(made.body.as_slice(), nodes);
         Ok(Close::Nothing)
     }
 
@@ -64,7 +62,8 @@ impl Session {
             return Err(Refusal::NumberingFull);
         }
         let block = self.context.make_block()?;
-        self.number(&[], &[], &[block], nodes);
+        nodes.clear();
+        self.blocks.number(&[block], nodes);
         Ok(Close::Nothing)
     }
 

@@ -1,18 +1,18 @@
 // How nodes get their numbers, and how a session starts.
-ghost use Rattle.std.specs.Prelude.{◌≡◌, ◌+◌, ◌<◌, ◌≤◌, [], ◌∷◌, ◌++◌, length, IfOk, vec_len, MatchBool};
+ghost use Rattle.std.specs.Prelude.{◌≡◌, ◌+◌, ◌<◌, ◌≤◌, [], ◌∷◌, ◌++◌, length, IfOk, vec_len, MatchBool, slice_index, slice_set};
 ghost use Rattle.std.specs.List.{slice_get};
 ghost use Rattle.std.specs.Option.{ok_or};
 ghost use Rattle.arrayvec.specs.ArrayVec.{array_vec_len};
 ghost use Rattle.result.specs.declared.refusal.Refusal.TheVariants.{BadOrdinal};
 ghost use Rattle.script.specs.Makes.{PastLast};
-ghost use Rattle.script.specs.Numbers.{Numbered, AllNumbered};
-ghost use Rattle.script.specs.Sessions.{Started, next_operation, next_block, next_region};
+ghost use Rattle.script.specs.Numbers.{Numbered};
+ghost use Rattle.script.specs.Sessions.{Started};
 
 use crate::node::Nodes;
 use crate::node_ptr::NodePtr;
 use crate::numbers::Numbers;
 use crate::session::Session;
-use ir::{BlockPtr, Context, OpPtr, RegionPtr};
+use ir::Context;
 use result::Refusal;
 use std::alloc::{AllocError, Global};
 
@@ -24,8 +24,9 @@ impl<T> Numbers<T> {
     pub(crate) fn new(heap: Global) -> Result<Numbers<T>, AllocError>
         ensures { IfOk result (λ n. n.handles.items ≡ []) }
     {
+        let latest = vec![in heap; 0u16; MOST]?;
         let handles = Vec::with_capacity(heap, MOST)?;
-        Ok(Numbers { handles })
+        Ok(Numbers { handles, latest })
     }
 
     // Whether there are numbers for so many nodes more.
@@ -33,18 +34,6 @@ impl<T> Numbers<T> {
         ensures { MatchBool result (vec_len self.now.handles + more ≤ 512) (512 < vec_len self.now.handles + more) }
     {
         more <= MOST - self.handles.len()
-    }
-
-    // Gives the next number to a node.
-    fn give(&mut self, handle: T) -> u16
-        requires { vec_len self.old.handles < 512 }
-        ensures value { result ≡ vec_len self.old.handles }
-        ensures items { self.new.handles.items ≡ self.old.handles.items ++ handle ∷ [] }
-        ensures len { vec_len self.new.handles ≡ vec_len self.old.handles + 1 }
-    {
-        let number = self.handles.len() as u16;
-        self.handles.push_reserved(handle);
-        number
     }
 }
 
@@ -59,11 +48,34 @@ impl<T: Copy> Numbers<T> {
 }
 
 impl<T: NodePtr> Numbers<T> {
+    // Gives the next number to a node.
+    fn give(&mut self, handle: T) -> u16
+        requires { vec_len self.old.handles < 512 }
+        ensures value { result ≡ vec_len self.old.handles }
+        ensures items { self.new.handles.items ≡ self.old.handles.items ++ handle ∷ [] }
+        ensures len { vec_len self.new.handles ≡ vec_len self.old.handles + 1 }
+        ensures latest { self.new.latest.items ≡ slice_set self.old.latest.items (T.place_of handle) result }
+    {
+        let number = self.handles.len() as u16;
+        self.handles.push_reserved(handle);
+        if let Some(latest) = self.latest.get_mut(handle.place()) {
+            *latest = number;
+        }
+        number
+    }
+
+    // The number given last to a node at the place of a handle.
+    pub(crate) fn number_of(&self, handle: T) -> u16
+        ensures { result ≡ slice_index self.now.latest.items (T.place_of handle) }
+    {
+        self.latest.get(handle.place()).copied().unwrap_or(0)
+    }
+
     // Gives the next numbers to nodes, in order, and lists each behind those that are listed.
-    fn number(&mut self, made: &[T], nodes: &mut Nodes)
+    pub(crate) fn number(&mut self, made: &[T], nodes: &mut Nodes)
         requires few { vec_len self.old.handles + length made.now ≤ 512 }
         requires room { array_vec_len nodes.old + length made.now ≤ 1024 }
-        ensures { Numbered T.node made.now self.old self.new nodes.old.items nodes.new.items }
+        ensures { Numbered T.node T.place_of made.now self.old self.new nodes.old.items nodes.new.items }
     {
         'each: for handle in made {
             let number = self.give(*handle);
@@ -94,26 +106,5 @@ impl Session {
         ensures { MatchBool result (PastLast self.now operations blocks regions → ⊥) (PastLast self.now operations blocks regions) }
     {
         self.operations.has(operations) && self.blocks.has(blocks) && self.regions.has(regions)
-    }
-
-    // Numbers the nodes that a field made, and lists these alone: operations, then regions, then blocks.
-    pub(crate) fn number(
-        &mut self,
-        operations: &[OpPtr],
-        regions: &[RegionPtr],
-        blocks: &[BlockPtr],
-        nodes: &mut Nodes,
-    )
-        requires operations { next_operation self.old + length operations.now ≤ 512 }
-        requires regions { next_region self.old + length regions.now ≤ 512 }
-        requires blocks { next_block self.old + length blocks.now ≤ 512 }
-        requires few { length operations.now + length regions.now + length blocks.now ≤ 1024 }
-        ensures store { self.new.context ≡ self.old.context }
-        ensures numbered { AllNumbered self.old operations.now regions.now blocks.now nodes.new.items self.new }
-    {
-        nodes.clear();
-        self.operations.number(operations, nodes);
-        self.regions.number(regions, nodes);
-        self.blocks.number(blocks, nodes);
     }
 }

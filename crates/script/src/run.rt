@@ -33,6 +33,13 @@ impl Session {
             Tag::LinkBlock => self.run_link_block(value, nodes),
             Tag::UnlinkOperation => self.run_unlink_operation(value, nodes),
             Tag::UnlinkBlock => self.run_unlink_block(value, nodes),
+            Tag::InsertSymbol => self.run_insert_symbol(value, nodes),
+            Tag::RemoveSymbol => self.run_remove_symbol(value, nodes),
+            Tag::EraseOperation => self.run_erase_operation(value, nodes),
+            Tag::EraseBlock => self.run_erase_block(value, nodes),
+            Tag::Lookup => self.run_lookup(value, nodes),
+            Tag::NearestLookup => self.run_nearest_lookup(value, nodes),
+            Tag::Walk => self.run_walk(value, nodes),
         }
     }
 }

@@ -12,6 +12,13 @@ pub(crate) enum Tag {
     LinkBlock = 4,
     UnlinkOperation = 5,
     UnlinkBlock = 6,
+    InsertSymbol = 7,
+    RemoveSymbol = 8,
+    EraseOperation = 10,
+    EraseBlock = 11,
+    Lookup = 12,
+    NearestLookup = 13,
+    Walk = 14,
 }
 
 impl TryFrom<u8> for Tag {
@@ -27,6 +34,13 @@ impl TryFrom<u8> for Tag {
             4 => Ok(Tag::LinkBlock),
             5 => Ok(Tag::UnlinkOperation),
             6 => Ok(Tag::UnlinkBlock),
+            7 => Ok(Tag::InsertSymbol),
+            8 => Ok(Tag::RemoveSymbol),
+            10 => Ok(Tag::EraseOperation),
+            11 => Ok(Tag::EraseBlock),
+            12 => Ok(Tag::Lookup),
+            13 => Ok(Tag::NearestLookup),
+            14 => Ok(Tag::Walk),
             _ => Err(Refusal::UnknownTag),
         }
     }

@@ -4,4 +4,8 @@
 #[cfg(test)]
 mod linking;
 #[cfg(test)]
+mod tables;
+#[cfg(test)]
 mod tests;
+#[cfg(test)]
+mod walking;

@@ -1,14 +1,13 @@
 // Scripts that link and unlink nodes. Each field stands beside the line that it prints, which was worked out by hand: the place
 // is the sum of the lengths before it, 3 bytes more than each value, and the reason for an answer stands beside it.
-// Row 1 cannot fit in a script yet, since no field erases a node; nor can row 19 where a field unlinks, since no field can put
-// a symbol directly into a table's body.
+// Row 1 and, where a field unlinks, row 19 stand with the fields that erase nodes and that put symbols into tables.
 use hexadecimal::decode;
 use script::{Session, read_line};
 use std::process::Abort;
 use std::test::Fail;
 
 // Runs a script in a fresh session: each field, in hexadecimal, prints the line beside it.
-fn replays(
+pub(crate) fn replays(
     rt: &(impl Abort + AllocGlobal),
     fields: &[(&'static str, &'static str)],
 ) -> Result<(), Fail> {

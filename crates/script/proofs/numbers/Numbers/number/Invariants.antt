@@ -3,4 +3,4 @@ use Rattle.script.specs.Numbers.{Numbered}
 use Rattle.script.proofs.numbers.Numbers.number.Given as goal
 
 abbrev pub invariant-each : goal.invariant-each
-invariant-each g l = Numbered g.T.NodePtr.node (take l.handle-index l.made) l.initial.self l.self l.initial.nodes.items l.nodes.items
+invariant-each g l = Numbered g.T.NodePtr.node g.T.NodePtr.place_of (take l.handle-index l.made) l.initial.self l.self l.initial.nodes.items l.nodes.items
