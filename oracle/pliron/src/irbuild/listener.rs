@@ -1,0 +1,3 @@
+//! Stand-in: a listener that does nothing.
+
+pub struct DummyListener;

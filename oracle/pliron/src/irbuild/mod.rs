@@ -1,0 +1,2 @@
+pub mod inserter;
+pub mod listener;

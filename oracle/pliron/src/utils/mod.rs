@@ -1,0 +1,2 @@
+pub mod table;
+pub mod vec_exns;
