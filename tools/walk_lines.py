@@ -4,7 +4,8 @@
     python3 tools/walk_lines.py [FILE]
 
 The script is hexadecimal text, in FILE or on standard input. Written from the rules alone: nodes are objects that hold lists of
-their children, and a walk is a recursion over these lists. Tags that are not in the table TAGS are refused as not listed.
+their children, a walk is a recursion over these lists, and a symbol is looked for among the children of a table's body. Tags that are
+not in the table TAGS are refused as not listed.
 """
 import re
 import sys
@@ -15,6 +16,7 @@ MOST_NAMES = 256
 MOST_LIVE = {"o": 512, "b": 256, "r": 256}
 LETTERS = "obr"  # by the byte for a kind of node: 00 operation, 01 block, 02 region
 NO_NODE = 3
+NO_POINT, UNSET, AT_BLOCK_START, AT_BLOCK_END, AFTER_OPERATION, BEFORE_OPERATION = range(6)
 NAME = re.compile(rb"[A-Za-z_][A-Za-z0-9_]*")
 
 
@@ -42,6 +44,17 @@ class Node:
         """Whether it is the other node, or stands in it at any depth."""
         return self is other or (self.container is not None and self.container.lies_in(other))
 
+    def parent_operation(self):
+        """Of an operation, the one whose region has its block."""
+        region = self.container and self.container.container
+        return region and region.container
+
+    def end(self):
+        """Ends it and all that lies below it."""
+        self.live = False
+        for child in self.children:
+            child.end()
+
     def is_tables_region(self):
         return self.letter == "r" and self.container.table
 
@@ -62,6 +75,30 @@ class Operation(Node):
         super().__init__("o")
         self.table, self.symbol, self.terminator = bool(kind & 1), bool(kind & 2), bool(kind & 4)
         self.name = name
+
+    def body(self):
+        """Of a table, its one block."""
+        return self.children[0].children[0]
+
+    def found(self, name):
+        """In a table, the operation that stands directly in its body under a name."""
+        return next((op for op in self.body().children if op.symbol and op.name == name), None)
+
+
+def plain_below(node):
+    """The operations that a walk of a table shows below a node, in order: no table, and nothing that lies below a nested one."""
+    shown = []
+    for child in node.children:
+        if child.letter == "o" and child.table:
+            continue
+        shown += [child] if child.letter == "o" else []
+        shown += plain_below(child)
+    return shown
+
+
+def refuse_bad_name(name):
+    refuse_if(5, len(name) > 32)
+    refuse_if(6, not NAME.fullmatch(name))
 
 
 def walk(root, configuration, skip, broken):
@@ -172,6 +209,87 @@ class Store:
         node.take_out()
         return []
 
+    def erase(self, value, letter):
+        refuse_if(23, len(value) != 2)
+        node = self.node(letter, number(value, 0))
+        refuse_if(1, not node.live)
+        refuse_if(17, letter == "b" and node.container is not None and node.container.is_tables_region())
+        refuse_if(19, letter == "o" and node.symbol and node.container is not None and node.container.is_tables_body())
+        if node.container is not None:
+            node.take_out()
+        node.end()
+        return []
+
+    def point(self, value):
+        """The node that an insertion's point names, if it names one."""
+        code, at = value[4], number(value, 5)
+        if code in (AT_BLOCK_START, AT_BLOCK_END):
+            return self.node("b", at)
+        return self.node("o", at) if code in (AFTER_OPERATION, BEFORE_OPERATION) else None
+
+    def insert_symbol(self, value):
+        refuse_if(23, len(value) != 7 or value[4] > BEFORE_OPERATION)
+        table, symbol, code = self.node("o", number(value, 0)), self.node("o", number(value, 2)), value[4]
+        named = self.point(value)
+        refuse_if(1, not table.live or not symbol.live or (named is not None and not named.live))
+        refuse_if(2, not table.table)
+        refuse_if(3, not symbol.symbol)
+        refuse_if(9, table.found(symbol.name) is not None)
+        refuse_if(10, symbol.parent_operation() not in (None, table))
+        by_mark = code in (AFTER_OPERATION, BEFORE_OPERATION)
+        refuse_if(11, code == UNSET or (by_mark and named.container is None))
+        body = table.body()
+        block = body if named is None else named.container if by_mark else named
+        refuse_if(12, block is not body)
+        refuse_if(14, symbol.container is not None)
+        refuse_if(18, body.lies_in(symbol))
+        ends = bool(body.children) and body.children[-1].terminator
+        place = {
+            NO_POINT: len(body.children) - ends,
+            AT_BLOCK_START: 0,
+            AT_BLOCK_END: len(body.children),
+            AFTER_OPERATION: by_mark and body.children.index(named) + 1,
+            BEFORE_OPERATION: by_mark and body.children.index(named),
+        }[code]
+        body.insert(place, symbol)
+        return []
+
+    def remove_symbol(self, value, erased):
+        refuse_if(23, len(value) != 4)
+        table, symbol = self.node("o", number(value, 0)), self.node("o", number(value, 2))
+        refuse_if(1, not table.live or not symbol.live)
+        refuse_if(2, not table.table)
+        refuse_if(3, not symbol.symbol)
+        refuse_if(13, symbol.parent_operation() is not table)
+        symbol.take_out()
+        if erased:
+            symbol.end()
+        return []
+
+    def look_up(self, value):
+        refuse_if(23, len(value) < 2)
+        table, name = self.node("o", number(value, 0)), value[2:]
+        refuse_if(1, not table.live)
+        refuse_if(2, not table.table)
+        refuse_bad_name(name)
+        return [found.word() if (found := table.found(name)) else "none"]
+
+    def look_up_nearest(self, value):
+        refuse_if(23, len(value) < 2)
+        op, name = self.node("o", number(value, 0)), value[2:]
+        refuse_if(1, not op.live)
+        refuse_bad_name(name)
+        while op is not None and not op.table:
+            op = op.parent_operation()
+        return [found.word() if op is not None and (found := op.found(name)) else "none"]
+
+    def walk_table(self, value):
+        refuse_if(23, len(value) != 2)
+        table = self.node("o", number(value, 0))
+        refuse_if(1, not table.live)
+        refuse_if(2, not table.table)
+        return words(plain_below(table)) + ["end"]
+
     def answered(self, value, at):
         """The node for which a walk has an answer: none, or one that may be dead, and then is not met."""
         return None if value[at] == NO_NODE else self.node(LETTERS[value[at]], number(value, at + 1))
@@ -200,7 +318,15 @@ TAGS = {
     0x04: lambda store, value: store.link(value, "b", "r"),
     0x05: lambda store, value: store.unlink(value, "o"),
     0x06: lambda store, value: store.unlink(value, "b"),
+    0x07: Store.insert_symbol,
+    0x08: lambda store, value: store.remove_symbol(value, False),
+    0x09: lambda store, value: store.remove_symbol(value, True),
+    0x0A: lambda store, value: store.erase(value, "o"),
+    0x0B: lambda store, value: store.erase(value, "b"),
+    0x0C: Store.look_up,
+    0x0D: Store.look_up_nearest,
     0x0E: Store.show_walk,
+    0x0F: Store.walk_table,
 }
 
 

@@ -307,8 +307,8 @@ def check(scripts, tags):
     assert tags <= seen, seen
 
 
-def write(name, about, scripts):
-    header = f"# {about}\n# Written by tools/walk_scripts.py, with the lines that the rules demand by tools/walk_lines.py.\n"
+def write(name, about, scripts, by="walk_scripts"):
+    header = f"# {about}\n# Written by tools/{by}.py, with the lines that the rules demand by tools/walk_lines.py.\n"
     records = []
     for fields in scripts:
         lines = walk_lines.lines(b"".join(fields))

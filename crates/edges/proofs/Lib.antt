@@ -2,3 +2,9 @@
 pub mod Skips
 pub mod Breaks
 pub mod Trees
+pub mod Rows
+pub mod Names
+pub mod Makings
+pub mod NewTables
+pub mod Lists
+pub mod Built

@@ -1,3 +1,6 @@
 -- What the contract of this crate cites.
 pub mod Examples
+pub mod Built
+pub mod Names
+pub mod NewTables
 pub mod EdgeCases

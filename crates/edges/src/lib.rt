@@ -1,4 +1,4 @@
-// Edge cases of walks, one by one, each as a theorem.
+// Edge cases, one by one, each as a theorem: of walks, of a table put into itself, and of names.
 #![tactic(auto)]
 
 mod cases;

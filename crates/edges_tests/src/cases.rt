@@ -1,6 +1,6 @@
 // The trees of the edge cases, built in a store and walked.
 use super::recorder::Recorder;
-use ir::{BlockPtr, Context, OpPtr, RegionPtr};
+use ir::{BlockPtr, Context, OpPtr, RegionPtr, SymbolTable};
 use records::IRNode;
 use result::Refusal;
 use std::process::Abort;
@@ -17,10 +17,10 @@ fn skip_at_a_block_keeps_the_next_block(rt: HostRuntime) -> Result<(), Fail> {
         .get(0)
         .expect(&rt, "made with one");
     let b0 = context.make_block()?;
-    let b1 = context.make_block()?;
-    let o = context.make_operation(0, 0, b"")?.operation;
     context.insert_block_at_back(b0, r)?;
+    let b1 = context.make_block()?;
     context.insert_block_at_back(b1, r)?;
+    let o = context.make_operation(0, 0, b"")?.operation;
     context.insert_op_at_back(o, b0)?;
     let mut recorder = Recorder::new(1, WalkResult::Skip);
     let said = walk_region(&context, WALKCONFIG_PREORDER_FORWARD, r, &mut recorder)?;
@@ -33,7 +33,7 @@ fn skip_at_a_block_keeps_the_next_block(rt: HostRuntime) -> Result<(), Fail> {
     Ok(())
 }
 
-// A table with a body that holds an operation with a region with a block, and an operation after it.
+// A table with a body that holds a symbol with a region with a block, and a terminator after it.
 #[derive(Clone, Copy)]
 struct Nested {
     o0: OpPtr,
@@ -45,23 +45,26 @@ struct Nested {
     o2: OpPtr,
 }
 
-// Builds it in a store.
+// Builds it in a fresh store, which grants each call.
 fn build(rt: &impl Abort, context: &mut Context) -> Result<Nested, Refusal> {
     let table = context.make_operation(1, 1, b"")?;
-    let inner = context.make_operation(0, 1, b"")?;
-    let tree = Nested {
+    let b0 = table.body.expect(rt, "a table has one");
+    let symbol = context.make_operation(2, 1, b"put")?;
+    let r1 = symbol.regions.get(0).expect(rt, "made with one");
+    let b1 = context.make_block()?;
+    context.insert_block_at_back(b1, r1)?;
+    let o2 = context.make_operation(4, 0, b"")?.operation;
+    context.insert_op_at_back(o2, b0)?;
+    SymbolTable::new(table.operation).insert(context, symbol.operation, None)?;
+    Ok(Nested {
         o0: table.operation,
         r0: table.regions.get(0).expect(rt, "a table has one"),
-        b0: table.body.expect(rt, "a table has one"),
-        o1: inner.operation,
-        r1: inner.regions.get(0).expect(rt, "made with one"),
-        b1: context.make_block()?,
-        o2: context.make_operation(0, 0, b"")?.operation,
-    };
-    context.insert_op_at_back(tree.o1, tree.b0)?;
-    context.insert_block_at_back(tree.b1, tree.r1)?;
-    context.insert_op_at_back(tree.o2, tree.b0)?;
-    Ok(tree)
+        b0,
+        o1: symbol.operation,
+        r1,
+        b1,
+        o2,
+    })
 }
 
 #[test]

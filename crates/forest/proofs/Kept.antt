@@ -9,7 +9,7 @@ use Rattle.arena.specs.declared.slot.Slot.{Slot}
 use Rattle.arena.specs.Pools.{Pool, live_slot, unused_pool}
 use Rattle.arena.proofs.Pooling.{unused_at}
 use Rattle.arena.proofs.Shelving.{enter_only, live_made, next_dead}
-use Rattle.linked_list.specs.Links.{Chain, In, Sound, View}
+use Rattle.linked_list.specs.Links.{Chain, Holds, In, Sound, View}
 use Rattle.linked_list.proofs.Grows.{Placed}
 use Rattle.records.specs.declared.basic_block.BasicBlock.{BasicBlock}
 use Rattle.records.specs.declared.handles.BlockPtr.{BlockPtr}
@@ -21,7 +21,7 @@ use Rattle.records.specs.declared.region.Region.{Region}
 use Rattle.records.specs.Makings.{Roomy, blocks_needed, body_of, new_block, new_operation, regions_made, with_block, with_body, with_operation, with_regions}
 use Rattle.records.specs.Models.{Model, next_block, next_op, next_region}
 use Rattle.records.specs.Views.{block_links, op_links, part}
-use Rattle.forest.proofs.Listed.{Made, MadeRegion, More, NewLists, block_lists, blocks_hold, more_none, more_one, more_regions, clash, no_some, ops_hold}
+use Rattle.forest.proofs.Listed.{Made, MadeRegion, More, NewLists, block_lists, blocks_hold, more_none, more_one, more_regions, clash, no_some, ops_hold, with_lists}
 use Rattle.records.specs.Writes.{same_blockptr, same_regionptr}
 use Rattle.forest.proofs.Tables.{Tables}
 
@@ -39,7 +39,7 @@ body_empty true m k y e = (ap (λ (z : BasicBlock). z.head) e.1, ap (λ (z : Bas
 body_empty false m k y e = absurd e
 
 -- the lists of new regions: a table's has its body
-abbrev bodies : Bool → Model → RegionPtr → List BlockPtr
+abbrev pub bodies : Bool → Model → RegionPtr → List BlockPtr
 bodies b m c = option_to_list (body_of b m)
 
 same_some : {X : Type 0} (x y : X) (o : Option X) → o ≡ Some x → o ≡ Some y → x ≡ y
@@ -131,59 +131,66 @@ module _ (m : Model) (t : Tables m) (op : OpPtr) (operations : Shelf Operation) 
 through : {A B : Type 0} → ∥ A ∥₁ → (A → B) → ∥ B ∥₁
 through a f = ∥∥₁_elim a ∥∥₁_prop (λ x. ∣ f x ∣₁)
 
+bodies_hold : (m : Model) (t : Tables m) (op : OpPtr) (operations : Shelf Operation) (b : Bool) (count : ℕ) → cond b count 1 ≡ 1 → blocks_needed b ≤ room m.blocks.pool → count ≤ room m.regions.pool
+    → (L : RegionPtr → List BlockPtr) → Holds (block_links m) L → Holds (block_links (after m t op operations b count)) (with_lists (block_links m).held L (bodies b m))
+bodies_hold m t op operations true count one need fits L h = blocks_hold m (after m t op operations true count) _ _ _ _ (bodies true m) L (table_lists m t op operations L count fits one need) h
+bodies_hold m t op operations false count one need fits L h = blocks_hold m (after m t op operations false count) _ _ _ _ (bodies false m) L (plain_lists m t op operations L count fits need) h
+
 body_sound : (m : Model) (t : Tables m) (op : OpPtr) (operations : Shelf Operation) (b : Bool) (count : ℕ) → cond b count 1 ≡ 1 → blocks_needed b ≤ room m.blocks.pool → count ≤ room m.regions.pool
     → Sound (block_links m) → Sound (block_links (after m t op operations b count))
-body_sound m t op operations true count one need fits h =
-    through h (λ s. (_, blocks_hold m (after m t op operations true count) _ _ _ _ (bodies true m) s.0 (table_lists m t op operations s.0 count fits one need) s.1))
-body_sound m t op operations false count one need fits h =
-    through h (λ s. (_, blocks_hold m (after m t op operations false count) _ _ _ _ (bodies false m) s.0 (plain_lists m t op operations s.0 count fits need) s.1))
+body_sound m t op operations b count one need fits h = through h (λ s. (_, bodies_hold m t op operations b count one need fits s.0 s.1))
 
 pub loose_new : (a : Shelf Operation) (kind : Kind) (name : Option ℕ) (regions : List RegionPtr) (k : Handle) (o : Operation) → Made a (new_operation kind name regions) k o
     → (o.next ≡ None) × (o.prev ≡ None) × (o.container ≡ None)
 loose_new a kind name regions k o e = (ap (λ (z : Operation). z.next) e.1, ap (λ (z : Operation). z.prev) e.1, ap (λ (z : Operation). z.container) e.1)
 
 module _ (m : Model) (t : Tables m) where
-  -- after the making of an operation
-  pub made_op_lists : (kind : Kind) (name : Option ℕ) (count : ℕ) → Roomy kind count m → Sound (op_links m) → Sound (op_links (with_operation kind name count m))
-  made_op_lists kind name count r h =
+  -- after the making of an operation: the lists that were there, and those of what is new
+  pub made_ops_hold : (kind : Kind) (name : Option ℕ) (count : ℕ) → Roomy kind count m → (L : BlockPtr → List OpPtr) → Holds (op_links m) L
+      → Holds (op_links (with_operation kind name count m)) (with_lists (op_links m).held L (λ c. []))
+  made_ops_hold kind name count r L h =
       let new = new_operation kind name (regions_made kind count m) in
-      through h (λ s. (
-        _,
-        ops_hold m (with_operation kind name count m) _ _ (more_one m.operations new t.op_places r.operations t.ops_even) (body_more kind.table m t r.blocks)
-            (loose_new m.operations kind name (regions_made kind count m)) (body_empty kind.table m) s.0 s.1,
-      ))
+      ops_hold m (with_operation kind name count m) _ _ (more_one m.operations new t.op_places r.operations t.ops_even) (body_more kind.table m t r.blocks)
+      (loose_new m.operations kind name (regions_made kind count m)) (body_empty kind.table m) L h
+
+  pub made_op_lists : (kind : Kind) (name : Option ℕ) (count : ℕ) → Roomy kind count m → Sound (op_links m) → Sound (op_links (with_operation kind name count m))
+  made_op_lists kind name count r h = through h (λ s. (_, made_ops_hold kind name count r s.0 s.1))
+
+  pub made_blocks_hold : (kind : Kind) (name : Option ℕ) (count : ℕ) → cond kind.table count 1 ≡ 1 → Roomy kind count m → (L : RegionPtr → List BlockPtr) → Holds (block_links m) L
+      → Holds (block_links (with_operation kind name count m)) (with_lists (block_links m).held L (bodies kind.table m))
+  made_blocks_hold kind name count one r = bodies_hold m t (next_op m) (with_operation kind name count m).operations kind.table count one r.blocks r.regions
 
   pub made_block_lists : (kind : Kind) (name : Option ℕ) (count : ℕ) → cond kind.table count 1 ≡ 1 → Roomy kind count m → Sound (block_links m) → Sound (block_links (with_operation kind name count m))
   made_block_lists kind name count one r h =
       body_sound m t (next_op m) (with_operation kind name count m).operations kind.table count one r.blocks r.regions h
 
   -- after the making of a block
-  block_more : 0 < room m.blocks.pool → More m.blocks (with_block m).blocks (Made m.blocks (new_block None))
+  pub block_more : 0 < room m.blocks.pool → More m.blocks (with_block m).blocks (Made m.blocks (new_block None))
   block_more h = more_one m.blocks (new_block None) t.block_places h t.blocks_even
 
+  pub block_ops_hold : 0 < room m.blocks.pool → (L : BlockPtr → List OpPtr) → Holds (op_links m) L → Holds (op_links (with_block m)) (with_lists (op_links m).held L (λ c. []))
+  block_ops_hold h L hs =
+      ops_hold m (with_block m) _ _ (more_none m.operations) (block_more h) (λ k o e. absurd e)
+      (λ k y e. (ap (λ (z : BasicBlock). z.head) e.1, ap (λ (z : BasicBlock). z.tail) e.1)) L hs
+
   pub block_op_lists : 0 < room m.blocks.pool → Sound (op_links m) → Sound (op_links (with_block m))
-  block_op_lists h hs =
-      through hs (λ s. (
-        _,
-        ops_hold m (with_block m) _ _ (more_none m.operations) (block_more h) (λ k o e. absurd e)
-            (λ k y e. (ap (λ (z : BasicBlock). z.head) e.1, ap (λ (z : BasicBlock). z.tail) e.1)) s.0 s.1,
-      ))
+  block_op_lists h hs = through hs (λ s. (_, block_ops_hold h s.0 s.1))
+
+  pub block_blocks_hold : 0 < room m.blocks.pool → (L : RegionPtr → List BlockPtr) → Holds (block_links m) L → Holds (block_links (with_block m)) (with_lists (block_links m).held L (λ c. []))
+  block_blocks_hold h L hs =
+      blocks_hold m (with_block m) _ _ (block_more h) (more_none m.regions) (λ c. []) L
+      (record {
+        chain = λ c gone r e new. absurd new;
+        placed = λ p b e new.
+            let none : (block_links (with_block m)).within p ≡ None = ap (part (λ (z : BasicBlock). z.container)) e ∙ ap (λ (z : BasicBlock). z.container) new.1 in
+            record {
+              loose = λ i. (ap (part (λ (z : BasicBlock). z.next)) e ∙ ap (λ (z : BasicBlock). z.next) new.1, ap (part (λ (z : BasicBlock). z.prev)) e ∙ ap (λ (z : BasicBlock). z.prev) new.1);
+              listed = λ c i. absurd (no_some c ((block_links (with_block m)).within p) none i);
+            };
+      }) hs
 
   pub block_block_lists : 0 < room m.blocks.pool → Sound (block_links m) → Sound (block_links (with_block m))
-  block_block_lists h hs =
-      through hs (λ s. (
-        _,
-        blocks_hold m (with_block m) _ _ (block_more h) (more_none m.regions) (λ c. []) s.0
-            (record {
-              chain = λ c gone r e new. absurd new;
-              placed = λ p b e new.
-                  let none : (block_links (with_block m)).within p ≡ None = ap (part (λ (z : BasicBlock). z.container)) e ∙ ap (λ (z : BasicBlock). z.container) new.1 in
-                  record {
-                    loose = λ i. (ap (part (λ (z : BasicBlock). z.next)) e ∙ ap (λ (z : BasicBlock). z.next) new.1, ap (part (λ (z : BasicBlock). z.prev)) e ∙ ap (λ (z : BasicBlock). z.prev) new.1);
-                    listed = λ c i. absurd (no_some c ((block_links (with_block m)).within p) none i);
-                  };
-            }) s.1,
-      ))
+  block_block_lists h hs = through hs (λ s. (_, block_blocks_hold h s.0 s.1))
 
 -- where nothing is live there is no list
 pub nothing_listed : {N C : Type 0} (v : View N C) → ((n : N) → v.live n ≡ false) → ((c : C) → v.held c ≡ false) → Sound v

@@ -35,7 +35,7 @@ module _ {T : Type 0} where
   item_last (y ∷ xs) x zero e = absurd (omega arith)
   item_last (y ∷ xs) x (suc i) e = item_last xs x i (omega arith)
 
-  item_within : (xs : List T) (i : ℕ) (x : T) → item xs i ≡ Some x → i < length xs
+  pub item_within : (xs : List T) (i : ℕ) (x : T) → item xs i ≡ Some x → i < length xs
   item_within [] i x e = absurd (no_some x None refl e)
   item_within (y ∷ xs) zero x e = omega arith
   item_within (y ∷ xs) (suc i) x e = let h = item_within xs i x e in omega arith
@@ -47,14 +47,14 @@ module _ {T : Type 0} where
 -- The regions of a new operation.
 
 module _ (op : OpPtr) (body : Option BlockPtr) (m : Model) (t : Tables m) where
-  region_handle : ℕ → Handle
+  pub region_handle : ℕ → Handle
   region_handle i = next (with_regions op body i m.regions).pool
 
-  handle_is : (i : ℕ) → next (with_regions op body i m.regions).pool ≡ region_handle i
+  pub handle_is : (i : ℕ) → next (with_regions op body i m.regions).pool ≡ region_handle i
   unfolding region_handle
   handle_is i = refl
 
-  ptr_item : (n i : ℕ) → i < n → item (region_ptrs op body n m.regions) i ≡ Some (region_of (region_handle i))
+  pub ptr_item : (n i : ℕ) → i < n → item (region_ptrs op body n m.regions) i ≡ Some (region_of (region_handle i))
   unfolding region_ptrs region_handle
   ptr_item zero i h = absurd (omega arith)
   ptr_item (suc n) i h =
@@ -69,7 +69,7 @@ module _ (op : OpPtr) (body : Option BlockPtr) (m : Model) (t : Tables m) where
             item_front xs (region_of (region_handle n) ∷ []) i z ∙ ptr_item n i (omega arith)
       ]
 
-  region_there : (n i : ℕ) → i < n → n ≤ room m.regions.pool → at (with_regions op body n m.regions) (region_handle i) ≡ Some (new_region op body i)
+  pub region_there : (n i : ℕ) → i < n → n ≤ room m.regions.pool → at (with_regions op body n m.regions) (region_handle i) ≡ Some (new_region op body i)
   unfolding with_regions region_handle
   region_there zero i h f = absurd (omega arith)
   region_there (suc n) i h f =

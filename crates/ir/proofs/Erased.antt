@@ -21,8 +21,9 @@ use Rattle.forest.proofs.Owning.{named_live}
 use Rattle.forest.proofs.Subtrees.{fewer_ended}
 use Rattle.symbol_table.specs.declared.symbol_tables.SymbolTables.{SymbolTables}
 use Rattle.symbol_table.specs.Carried.{nodes as tabled}
-use Rattle.symbol_table.specs.Erasing.{ErasesBlockIn, ErasesOpIn}
+use Rattle.symbol_table.specs.Erasing.{Erases, ErasesBlockIn, ErasesOpIn}
 use Rattle.ir.specs.Numbers.{NumbersHeld}
+use Rattle.ir.proofs.Numbering.{op_edit_held}
 
 -- what is live where a node ended has the name that it had
 ended_held : (m t : Model) (x : IRNode) (n : ℕ) → Ended m x t → Lists m → NumbersHeld m n → NumbersHeld t n
@@ -54,3 +55,10 @@ module _ (f t : SymbolTables) (n : ℕ) (held : NumbersHeld (tabled f) n) where
   pub block_erased_held : (block : BlockPtr) (r : Result (Unit {0}) Refusal) → ErasesBlockIn f block r t → NumbersHeld (tabled t) n
   block_erased_held block (Ok x) a = ended (node.BasicBlock block) a.1.erased.ended
   block_erased_held block (Err e) a = stays a.1
+
+-- erasing a symbol out of a table does, too
+pub symbol_erased_held : (f t : SymbolTables) (n : ℕ) → NumbersHeld (tabled f) n → (table op : OpPtr) (r : Result (Unit {0}) Refusal) → Erases f table op r t → NumbersHeld (tabled t) n
+symbol_erased_held f t n held table op (Ok x) a =
+    let b = a.1.between in
+    ended b t n (op_edit_held (tabled f) (tabled b) n a.1.removed.unlinked.rests held) (node.Operation op) a.1.erased.erased.ended
+symbol_erased_held f t n held table op (Err e) a = stays f t n held a.1

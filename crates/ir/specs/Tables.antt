@@ -1,4 +1,4 @@
--- Symbol tables, with names as bytes: putting a symbol into a table and taking it out, looking one up, and the table that is nearest
+-- Symbol tables, with names as bytes: putting a symbol into a table, taking it out and erasing it, looking one up, and the table that is nearest
 -- to an operation; and what is always true of them.
 use Rattle.std.specs.Prelude.{◌≡◌, ℕ, true, false, List, ◌∷◌, Some, None, Option, Result}
 use Rattle.result.specs.declared.refusal.Refusal.{Refusal}
@@ -12,6 +12,7 @@ use Rattle.records.specs.Views.{op_links, part}
 use Rattle.identifier.specs.Identifiers.{name_rows}
 use Rattle.symbol_table.specs.declared.op_insertion_point.OpInsertionPoint.{OpInsertionPoint}
 use Rattle.symbol_table.specs.Bodies.{body_in}
+use Rattle.symbol_table.specs.Erasing.{ErasedFrom}
 use Rattle.symbol_table.specs.Inserting.{Inserted, Removed, insert_rows, remove_rows}
 use Rattle.symbol_table.specs.Laws.{OneBody}
 use Rattle.symbol_table.specs.Lookups.{Nearest, nearest_rows}
@@ -57,6 +58,15 @@ pub record SymbolRemoved (s : Context) (t op : OpPtr) (u : Context) : Type 0 whe
 -- taking a symbol out of a table
 abbrev pub RemoveSymbolCall : Context → OpPtr → OpPtr → Result (Unit {0}) Refusal → Context → Type 0
 RemoveSymbolCall s t op r u = Answered (remove_rows (nodes s) t op) (λ _ v. SymbolRemoved s t op v) s r u
+
+-- The symbol is taken out of the table's body and erased with all that lies below it; the names stay held.
+pub record SymbolErased (s : Context) (t op : OpPtr) (u : Context) : Type 0 where
+  pub erased : ErasedFrom s.tables t op u.tables
+  pub held : names u ≡ names s
+
+-- erasing a symbol out of a table
+abbrev pub EraseSymbolCall : Context → OpPtr → OpPtr → Result (Unit {0}) Refusal → Context → Type 0
+EraseSymbolCall s t op r u = Answered (remove_rows (nodes s) t op) (λ _ v. SymbolErased s t op v) s r u
 
 -- the refusals of looking up a name in a table, uppermost first
 abbrev pub lookup_rows : Model → OpPtr → List ℕ → List (Refusal × Type 0)

@@ -1,10 +1,8 @@
 // Linking operations into blocks and blocks into regions, unlinking them, and going through children.
 // Kept: each call once for operations and once for blocks, and one for each spot, a rule of the project: a block's handle where an
 // operation's is wanted must not compile.
-ghost use Rattle.std.specs.Prelude.{◌≡◌, MatchResult};
 ghost use Rattle.linked_list.specs.declared.spot.Spot.TheVariants.{After, AtBack, AtFront, Before};
-ghost use Rattle.result.specs.Rows.{NoRow, Uppermost};
-ghost use Rattle.forest.specs.Iters.{Starts, blocks_in, iter_rows, ops_in};
+ghost use Rattle.ir.specs.Iterating.{IterBlocksCall, IterOpsCall};
 ghost use Rattle.ir.specs.Linkings.{InsertBlockCall, BlockIsLinked, UnlinkBlockCall, InsertOpCall, OpIsLinked, UnlinkOpCall};
 
 use crate::context::Context;
@@ -130,18 +128,14 @@ impl Context {
 
     // The operations of a block, to be gone through from either end.
     pub fn iter_ops(&self, block: BlockPtr) -> Result<OpIter<'_>, Refusal>
-        ensures { MatchResult result
-            (λ it. NoRow (iter_rows (ops_in self.now.tables.forest) block) × Starts ops_in self.now.tables.forest block it.forest.now it.left)
-            (λ e. Uppermost (iter_rows (ops_in self.now.tables.forest) block) e) }
+        ensures { IterOpsCall self.now block result }
     {
         self.tables.forest().iter_ops(block)
     }
 
     // The blocks of a region, to be gone through from either end.
     pub fn iter_blocks(&self, region: RegionPtr) -> Result<BlockIter<'_>, Refusal>
-        ensures { MatchResult result
-            (λ it. NoRow (iter_rows (blocks_in self.now.tables.forest) region) × Starts blocks_in self.now.tables.forest region it.forest.now it.left)
-            (λ e. Uppermost (iter_rows (blocks_in self.now.tables.forest) region) e) }
+        ensures { IterBlocksCall self.now region result }
     {
         self.tables.forest().iter_blocks(region)
     }

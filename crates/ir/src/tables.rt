@@ -3,7 +3,7 @@ ghost use Rattle.std.specs.Prelude.{◌≡◌, true};
 ghost use Rattle.identifier.specs.Identifiers.{text};
 ghost use Rattle.records.specs.Nodes.{is_table};
 ghost use Rattle.ir.specs.Stores.{nodes};
-ghost use Rattle.ir.specs.Tables.{Found, InsertSymbolCall, LookupCall, NearestLookupCall, NearestTableCall, RemoveSymbolCall};
+ghost use Rattle.ir.specs.Tables.{EraseSymbolCall, Found, InsertSymbolCall, LookupCall, NearestLookupCall, NearestTableCall, RemoveSymbolCall};
 
 use crate::context::Context;
 use identifier::Identifier;
@@ -43,6 +43,13 @@ impl SymbolTable {
         ensures { RemoveSymbolCall context.old self.op op result context.new }
     {
         context.tables.remove(self.op, op)
+    }
+
+    // Takes a symbol out of the table's body and erases it with all that lies below it.
+    pub fn erase(self, context: &mut Context, op: OpPtr) -> Result<(), Refusal>
+        ensures { EraseSymbolCall context.old self.op op result context.new }
+    {
+        context.tables.erase(self.op, op)
     }
 
     // The operation that stands in the table's body under a name, if one does. No name is added.

@@ -1,12 +1,16 @@
 // Reads the script.
+ghost use Rattle.std.specs.Prelude.{◌≡◌, [], IfOk, IfSome, Ok, take};
+ghost use Rattle.hexadecimal.specs.Texts.{after, decoded};
+ghost use Rattle.irscript.specs.Reading.{ScriptIn, most_read};
+
 use anyhow::{anyhow, ensure};
 use hexadecimal::{HexError, decode, lines_before};
 use std::alloc::Global;
 use std::io::Read;
 use std::{fs, io};
 
-// The most bytes of a script that are read: one more than it may have, so that a longer one is seen.
-const SCRIPT: u64 = 4096 + 1;
+// The most bytes that a script may have.
+const SCRIPT: u64 = 4096;
 
 // The most bytes that a hexadecimal text may have.
 const TEXT: u64 = 1 << 20;
@@ -17,41 +21,48 @@ pub(crate) fn read_script(
     hex: bool,
     file: Option<String>,
 ) -> anyhow::Result<Vec<u8>> {
-    if !hex {
-        return read_bytes(rt, file, SCRIPT);
-    }
-    let text = read_bytes(rt, file, TEXT + 1)?;
-    ensure!(
-        text.len() as u64 <= TEXT,
-        "the text has over 1,048,576 bytes"
-    );
-    decode_text(rt.alloc(), text.as_slice())
-}
-
-// The first bytes of a file, or of standard input.
-fn read_bytes(rt: &HostRuntime, file: Option<String>, limit: u64) -> anyhow::Result<Vec<u8>> {
-    match file {
-        None => Ok(read_all(rt.alloc(), rt.stdin(), limit)?),
+    let bytes = match file {
+        None => read_source(rt.alloc(), rt.stdin(), hex)?,
         Some(path) => {
-            read_file(rt, path.as_str(), limit).map_err(|error| anyhow!("{path}: {error}"))
+            read_file(rt, path.as_str(), hex).map_err(|error| anyhow!("{path}: {error}"))?
         }
-    }
+    };
+    script_in(rt.alloc(), hex, bytes)
 }
 
-// The first bytes of a file.
-fn read_file(rt: &HostRuntime, path: &str, limit: u64) -> io::Result<Vec<u8>> {
-    read_all(rt.alloc(), fs::open(rt, path)?, limit)
+// What is read of a file.
+fn read_file(rt: &HostRuntime, path: &str, hex: bool) -> io::Result<Vec<u8>> {
+    read_source(rt.alloc(), fs::open(rt, path)?, hex)
 }
 
-// The first bytes of a source.
-fn read_all<R: Read + Drop>(heap: Global, source: R, limit: u64) -> io::Result<Vec<u8>> {
+// What is read of a source: its bytes, but at most one more than a script, or a hexadecimal text, may have, so that a longer one is seen.
+fn read_source<R: Read + Drop>(heap: Global, source: R, hex: bool) -> io::Result<Vec<u8>>
+    ensures { IfOk result (λ bytes. IfSome (R.remaining source) (λ all. bytes.items ≡ take (most_read hex) all)) }
+{
+    let most = if hex { TEXT } else { SCRIPT };
     let mut bytes = Vec::new(heap);
-    let _ = source.take(limit).read_to_end(&mut bytes)?;
+    let _ = source.take(most + 1).read_to_end(&mut bytes)?;
     Ok(bytes)
 }
 
+// The script that these bytes are, or that they mean in hexadecimal.
+fn script_in(heap: Global, hex: bool, bytes: Vec<u8>) -> anyhow::Result<Vec<u8>>
+    ensures { IfOk result (λ script. ScriptIn hex bytes.items script.items) }
+{
+    if !hex {
+        return Ok(bytes);
+    }
+    ensure!(
+        bytes.len() as u64 <= TEXT,
+        "the text has over 1,048,576 bytes"
+    );
+    decode_text(heap, bytes.as_slice())
+}
+
 // The bytes that a hexadecimal text means.
-fn decode_text(heap: Global, text: &[u8]) -> anyhow::Result<Vec<u8>> {
+fn decode_text(heap: Global, text: &[u8]) -> anyhow::Result<Vec<u8>>
+    ensures { IfOk result (λ script. after [] (decoded text.now) ≡ Ok script.items) }
+{
     let mut script = Vec::with_capacity(heap, text.len())?;
     decode(text, &mut script).map_err(|error| match error {
         HexError::NotHex { place } | HexError::HalfByte { place } => {

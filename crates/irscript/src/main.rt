@@ -26,7 +26,7 @@ fn run(rt: &HostRuntime) -> anyhow::Result<()> {
         Task::Help => rt.print(options::USAGE)?,
         Task::Run { hex, file } => {
             let script = read_script(rt, hex, file)?;
-            print_lines(rt, script.as_slice())?;
+            print_lines(rt.alloc(), script.as_slice(), &mut rt.stdout())?;
         }
     }
     Ok(())

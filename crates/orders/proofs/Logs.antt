@@ -118,11 +118,11 @@ module _ {N B : Type 0} where
     skips_in (s ∷ log) n e = step_skipped n s log (same n s.node) (skips_in log n) e
 
 module _ {N B : Type 0} where
-  on_unbroken : (log : List (Shown N B)) → AllAdvance log → Unbroken log
+  pub on_unbroken : (log : List (Shown N B)) → AllAdvance log → Unbroken log
   on_unbroken [] h = tt
   on_unbroken (s ∷ log) h = (subst GoesOn (sym h.0) tt, on_unbroken log h.1)
 
-  none_skipped : (log : List (Shown N B)) (n : N) → AllAdvance log → In (shown n Skip) log → ⊥
+  pub none_skipped : (log : List (Shown N B)) (n : N) → AllAdvance log → In (shown n Skip) log → ⊥
   none_skipped [] n h i = i
   none_skipped (s ∷ log) n h (inl e) = let q : Skip ≡ Advance = ap (λ (x : Shown N B). x.answer) e ∙ h.0 in cc
   none_skipped (s ∷ log) n h (inr i) = none_skipped log n h.1 i
@@ -132,7 +132,7 @@ module _ {N B : Type 0} where
   not_broken (s ∷ earlier) n b u = not_broken earlier n b u.1
 
   -- a log that nothing ended shows all
-  unbroken_all : (log : List (Shown N B)) (less : List N) (r : WalkResult B) → Unbroken log → Ending log less r → (nodes log ≡ less) × (r ≡ Advance)
+  pub unbroken_all : (log : List (Shown N B)) (less : List N) (r : WalkResult B) → Unbroken log → Ending log less r → (nodes log ≡ less) × (r ≡ Advance)
   unbroken_all log less r u (ended v e) = (e, refl)
   unbroken_all log less r u (broken earlier n b rest l v e) = absurd (not_broken earlier n b (subst Unbroken l u))
 

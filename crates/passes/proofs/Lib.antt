@@ -2,3 +2,5 @@
 pub mod Stepped
 pub mod Seconds
 pub mod Counting
+pub mod FirstMet
+pub mod Leaving

@@ -76,7 +76,7 @@ abbrev NextIn : Context → WalkConfig → IRNode → List (Shown IRNode (Unit {
 NextIn s k root log r = (l : Lists (nodes s)) → Next (parent (nodes s)) (early k) (directed_children k (nodes s) l) root log r
 
 module _ (s : Context) (block : BlockPtr) (alive : NoRow (root_rows s (node.BasicBlock block))) (w x y : Walk) (q r : Option IRNode)
-    (b : Begins s WALKCONFIG_PREORDER_FORWARD (node.BasicBlock block) w) (t : Steps {B = Unit {0}} w Advance q x) (u : Steps {B = Unit {0}} x Advance r y) where
+    (b : Begins s WALKCONFIG_PREORDER_FORWARD (node.BasicBlock block) w) (t : Steps w Advance q x) (u : Steps x Advance r y) where
   abbrev k : WalkConfig
   k = WALKCONFIG_PREORDER_FORWARD
 

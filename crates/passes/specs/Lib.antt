@@ -1,3 +1,5 @@
 pub mod Firsts
+pub mod Moves
 pub mod Numberings
 pub mod Subtrees
+pub mod Terminators

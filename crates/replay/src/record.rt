@@ -36,6 +36,6 @@ fn replay_record(heap: Global, record: &str) -> anyhow::Result<usize> {
         .ok_or_else(|| anyhow!("no line with the word prints"))?;
     let mut script = Vec::new(heap);
     decode(text.as_bytes(), &mut script)?;
-    compare_lines(heap, script.as_slice(), wanted)?;
+    compare_lines(heap, script.as_slice(), wanted.as_bytes())?;
     Ok(wanted.split_terminator('\n').count())
 }

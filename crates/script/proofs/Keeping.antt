@@ -24,7 +24,8 @@ use Rattle.ir.specs.Linkings.{InsertBlockCall, InsertOpCall, UnlinkBlockCall, Un
 use Rattle.ir.specs.Erasings.{EraseBlockCall, EraseOpCall}
 use Rattle.forest.specs.Erasings.{Ended}
 use Rattle.ir.specs.Calls.{MakeBlockCall, MakeOperationCall}
-use Rattle.ir.specs.Tables.{InsertSymbolCall, RemoveSymbolCall}
+use Rattle.ir.specs.Tables.{EraseSymbolCall, InsertSymbolCall, RemoveSymbolCall}
+use Rattle.symbol_table.specs.Carried.{nodes as table_nodes}
 use Rattle.symbol_table.specs.declared.op_insertion_point.OpInsertionPoint.{OpInsertionPoint}
 use Rattle.ir.specs.Stores.{Built, nodes}
 use Rattle.forest.proofs.Kept.{unused_dead}
@@ -33,7 +34,7 @@ use Rattle.linked_list.proofs.Lists.{none_some}
 use Rattle.script.specs.declared.node.Node.{Node}
 use Rattle.script.specs.declared.node.Node.TheVariants.{Operation, Block, Region}
 use Rattle.script.specs.declared.numbers.Numbers.{Numbers}
-use Rattle.script.specs.declared.session.Session.{Session}
+use Rattle.script.specs.declared.state.State.{State}
 use Rattle.script.specs.Found.{AllFound, Found}
 use Rattle.script.specs.Numbers.{Numbered, latest_from}
 use Rattle.script.proofs.Finding.{block_inj, found_regions, found_taken, op_inj}
@@ -78,67 +79,85 @@ block_places m n e = record {
   regions_same = ap (λ (l : Model). l.regions.pool) e;
 }
 
-abbrev FoundAfter : Session → Context → Type 0
-FoundAfter s t = ∥ AllFound (nodes t) s.operations s.blocks s.regions ∥₁
+-- the numbers of live nodes are found among these nodes
+abbrev FoundIn : State → Model → Type 0
+FoundIn s m = ∥ AllFound m s.operations s.blocks s.regions ∥₁
 
-found_same : (s : Session) (t : Context) → SamePlaces (nodes t) (nodes s.context) → FoundAfter s t
-found_same s t e = ∥∥₁_map s.found (λ (f : AllFound (nodes s.context) s.operations s.blocks s.regions). record {
+abbrev FoundAfter : State → Context → Type 0
+FoundAfter s t = FoundIn s (nodes t)
+
+same_found : (s : State) (m n : Model) → SamePlaces n m → FoundIn s m → FoundIn s n
+same_found s m n e w = ∥∥₁_map w (λ (f : AllFound m s.operations s.blocks s.regions). record {
   operations_found = subst (λ (p : Pool). Found (λ (x : OpPtr). x.handle) p (vec_items s.operations.handles) (vec_items s.operations.latest)) (sym e.operations_same) f.operations_found;
   blocks_found = subst (λ (p : Pool). Found (λ (x : BlockPtr). x.handle) p (vec_items s.blocks.handles) (vec_items s.blocks.latest)) (sym e.blocks_same) f.blocks_found;
   regions_found = subst (λ (p : Pool). Found (λ (x : RegionPtr). x.handle) p (vec_items s.regions.handles) (vec_items s.regions.latest)) (sym e.regions_same) f.regions_found;
 })
 
+found_same : (s : State) (t : Context) → SamePlaces (nodes t) (nodes s.context) → FoundAfter s t
+found_same s t e = same_found s (nodes s.context) (nodes t) e s.found
+
 -- a call that is refused leaves the store as it was
-pub found_refused : (s : Session) (t : Context) → t ≡ s.context → FoundAfter s t
+pub found_refused : (s : State) (t : Context) → t ≡ s.context → FoundAfter s t
 found_refused s t e = subst (λ (u : Context). ∥ AllFound (nodes u) s.operations s.blocks s.regions ∥₁) (sym e) s.found
 
 -- linking and unlinking free and take no places
-pub found_op_inserted : (s : Session) (op : OpPtr) (spot : Spot OpPtr BlockPtr) (r : Result (Unit {0}) Refusal) (t : Context) → InsertOpCall s.context op spot r t → FoundAfter s t
+pub found_op_inserted : (s : State) (op : OpPtr) (spot : Spot OpPtr BlockPtr) (r : Result (Unit {0}) Refusal) (t : Context) → InsertOpCall s.context op spot r t → FoundAfter s t
 found_op_inserted s op spot (Ok x) t h = found_same s t (op_places _ _ h.1.linked.rests)
 found_op_inserted s op spot (Err e) t h = found_refused s t h.1
 
-pub found_block_inserted : (s : Session) (block : BlockPtr) (spot : Spot BlockPtr RegionPtr) (r : Result (Unit {0}) Refusal) (t : Context) → InsertBlockCall s.context block spot r t → FoundAfter s t
+pub found_block_inserted : (s : State) (block : BlockPtr) (spot : Spot BlockPtr RegionPtr) (r : Result (Unit {0}) Refusal) (t : Context) → InsertBlockCall s.context block spot r t → FoundAfter s t
 found_block_inserted s block spot (Ok x) t h = found_same s t (block_places _ _ h.1.linked.rests)
 found_block_inserted s block spot (Err e) t h = found_refused s t h.1
 
-pub found_op_taken : (s : Session) (op : OpPtr) (r : Result (Unit {0}) Refusal) (t : Context) → UnlinkOpCall s.context op r t → FoundAfter s t
+pub found_op_taken : (s : State) (op : OpPtr) (r : Result (Unit {0}) Refusal) (t : Context) → UnlinkOpCall s.context op r t → FoundAfter s t
 found_op_taken s op (Ok x) t h = found_same s t (op_places _ _ h.1.unlinked.rests)
 found_op_taken s op (Err e) t h = found_refused s t h.1
 
-pub found_block_taken : (s : Session) (block : BlockPtr) (r : Result (Unit {0}) Refusal) (t : Context) → UnlinkBlockCall s.context block r t → FoundAfter s t
+pub found_block_taken : (s : State) (block : BlockPtr) (r : Result (Unit {0}) Refusal) (t : Context) → UnlinkBlockCall s.context block r t → FoundAfter s t
 found_block_taken s block (Ok x) t h = found_same s t (block_places _ _ h.1.unlinked.rests)
 found_block_taken s block (Err e) t h = found_refused s t h.1
 
 -- putting a symbol into a table and taking it out link and unlink an operation
-pub found_symbol_inserted : (s : Session) (table op : OpPtr) (point : Option OpInsertionPoint) (r : Result (Unit {0}) Refusal) (t : Context) → InsertSymbolCall s.context table op point r t → FoundAfter s t
+pub found_symbol_inserted : (s : State) (table op : OpPtr) (point : Option OpInsertionPoint) (r : Result (Unit {0}) Refusal) (t : Context) → InsertSymbolCall s.context table op point r t → FoundAfter s t
 found_symbol_inserted s table op point (Ok x) t h = found_same s t (op_places _ _ h.1.inserted.linked.rests)
 found_symbol_inserted s table op point (Err e) t h = found_refused s t h.1
 
-pub found_symbol_removed : (s : Session) (table op : OpPtr) (r : Result (Unit {0}) Refusal) (t : Context) → RemoveSymbolCall s.context table op r t → FoundAfter s t
+pub found_symbol_removed : (s : State) (table op : OpPtr) (r : Result (Unit {0}) Refusal) (t : Context) → RemoveSymbolCall s.context table op r t → FoundAfter s t
 found_symbol_removed s table op (Ok x) t h = found_same s t (op_places _ _ h.1.removed.unlinked.rests)
 found_symbol_removed s table op (Err e) t h = found_refused s t h.1
 
 -- erasing makes nothing live: what lies below the erased node is gone, and all else stays as live as it was
-found_ended : (s : Session) (t : Context) (n : IRNode) → Ended (nodes s.context) n (nodes t) → FoundAfter s t
-found_ended s t n h = ∥∥₁_map s.found (λ (f : AllFound (nodes s.context) s.operations s.blocks s.regions). record {
+ended_found : (s : State) (m k : Model) (n : IRNode) → Ended m n k → FoundIn s m → FoundIn s k
+ended_found s m k n h w = ∥∥₁_map w (λ (f : AllFound m s.operations s.blocks s.regions). record {
   operations_found = record { finds = λ x e. f.operations_found.finds x (was (node.Operation x) e); last = f.operations_found.last };
   blocks_found = record { finds = λ x e. f.blocks_found.finds x (was (node.BasicBlock x) e); last = f.blocks_found.last };
   regions_found = record { finds = λ x e. f.regions_found.finds x (was (node.Region x) e); last = f.regions_found.last };
 })
   where
-    was : (x : IRNode) → is_live (nodes t) x ≡ true → is_live (nodes s.context) x ≡ true
+    was : (x : IRNode) → is_live k x ≡ true → is_live m x ≡ true
     was x e = sym (h.stays x (λ w. clash (sym e ∙ h.gone x w))) ∙ e
 
-pub found_op_erased : (s : Session) (op : OpPtr) (r : Result (Unit {0}) Refusal) (t : Context) → EraseOpCall s.context op r t → FoundAfter s t
+found_ended : (s : State) (t : Context) (n : IRNode) → Ended (nodes s.context) n (nodes t) → FoundAfter s t
+found_ended s t n h = ended_found s (nodes s.context) (nodes t) n h s.found
+
+-- erasing a symbol out of a table takes it out first
+pub found_symbol_erased : (s : State) (table op : OpPtr) (r : Result (Unit {0}) Refusal) (t : Context) → EraseSymbolCall s.context table op r t → FoundAfter s t
+found_symbol_erased s table op (Ok x) t h =
+    let e = h.1.erased in
+    let between = table_nodes e.between in
+    ended_found s between (nodes t) (node.Operation op) e.erased.erased.ended (same_found s (nodes s.context) between (op_places _ _ e.removed.unlinked.rests) s.found)
+found_symbol_erased s table op (Err e) t h = found_refused s t h.1
+
+pub found_op_erased : (s : State) (op : OpPtr) (r : Result (Unit {0}) Refusal) (t : Context) → EraseOpCall s.context op r t → FoundAfter s t
 found_op_erased s op (Ok x) t h = found_ended s t (node.Operation op) h.1.erased.erased.ended
 found_op_erased s op (Err e) t h = found_refused s t h.1
 
-pub found_block_erased : (s : Session) (block : BlockPtr) (r : Result (Unit {0}) Refusal) (t : Context) → EraseBlockCall s.context block r t → FoundAfter s t
+pub found_block_erased : (s : State) (block : BlockPtr) (r : Result (Unit {0}) Refusal) (t : Context) → EraseBlockCall s.context block r t → FoundAfter s t
 found_block_erased s block (Ok x) t h = found_ended s t (node.BasicBlock block) h.1.erased.erased.ended
 found_block_erased s block (Err e) t h = found_refused s t h.1
 
 -- a block that was made is found once it has a number
-pub found_block : (s : Session) (made : BlockPtr) (t : Context) (b : Numbers BlockPtr) (new : List BlockPtr) (ns ms : List Node) → MakeBlockCall s.context (Ok made) t → new ≡ made ∷ []
+pub found_block : (s : State) (made : BlockPtr) (t : Context) (b : Numbers BlockPtr) (new : List BlockPtr) (ns ms : List Node) → MakeBlockCall s.context (Ok made) t → new ≡ made ∷ []
     → Numbered Block (λ p. p.handle.place) new s.blocks b ns ms → ∥ AllFound (nodes t) s.operations b s.regions ∥₁
 found_block s made t b new ns ms h e n =
     let m = nodes s.context in
@@ -172,7 +191,7 @@ found_none t a b c built o p q = ∣ (record {
 }) ∣₁
 
 -- what a making's rows leave of the records
-module _ (s : Session) (kind regs : ℕ) (name : List ℕ) (made : MadeOperation) (t : Context) (h : MakeOperationCall s.context kind regs name (Ok made) t) where
+module _ (s : State) (kind regs : ℕ) (name : List ℕ) (made : MadeOperation) (t : Context) (h : MakeOperationCall s.context kind regs name (Ok made) t) where
   abbrev m : Model
   m = nodes s.context
 
@@ -225,7 +244,7 @@ module _ (s : Session) (kind regs : ℕ) (name : List ℕ) (made : MadeOperation
       }))
 
 -- sessions with the same fields are the same
-pub same_session : (t s : Session) → t.context ≡ s.context → t.operations ≡ s.operations → t.blocks ≡ s.blocks → t.regions ≡ s.regions → t ≡ s
+pub same_session : (t s : State) → t.context ≡ s.context → t.operations ≡ s.operations → t.blocks ≡ s.blocks → t.regions ≡ s.regions → t ≡ s
 same_session t s c o b r = λ i. record {
   context = c i;
   operations = o i;

@@ -1,3 +1,4 @@
+mod Bytes
 mod Done
 mod Finding
 mod Following
@@ -9,3 +10,4 @@ mod Once
 mod Printing
 mod Shown
 mod Steered
+mod Tabled

@@ -18,7 +18,7 @@ use Rattle.ir.specs.Stores.{name_of, names, nodes}
 use Rattle.ir.specs.Tables.{Found, FoundIn, FoundNearest, LookupCall, NearestLookupCall, Stands}
 use Rattle.script.specs.declared.node.Node.{Node}
 use Rattle.script.specs.declared.node.Close.{Close}
-use Rattle.script.specs.declared.session.Session.{Session}
+use Rattle.script.specs.declared.state.State.{State}
 use Rattle.script.specs.Linkings.{edit_rows, rows_of}
 use Rattle.script.specs.Listed.{ToldAs}
 use Rattle.script.specs.Lookups.{LookedUp, Tells}
@@ -36,17 +36,17 @@ standing_live s t op bytes h = with_operation (operation_at (nodes s) op) refl
     with_operation (Some o) q = named_live (nodes s).operations op.handle o q
 
 -- what a lookup found is shown with its number
-tells : (s : Session) (t : OpPtr) (bytes : List ℕ) (x : Option OpPtr) (shown : List Node) (c : Close) → Found s.context t bytes x → ToldAs s x shown c → Tells s x shown c
+tells : (s : State) (t : OpPtr) (bytes : List ℕ) (x : Option OpPtr) (shown : List Node) (c : Close) → Found s.context t bytes x → ToldAs s x shown c → Tells s x shown c
 tells s t bytes None shown c f h = h
 tells s t bytes (Some op) shown c f h =
     (subst (HaveNumbers s (node.Operation op ∷ [])) (sym h.0) (number_of_live s (node.Operation op) (standing_live s.context t op bytes f.stands), tt), h.1)
 
-tells_in : (s : Session) (t : Option OpPtr) (bytes : List ℕ) (x : Option OpPtr) (shown : List Node) (c : Close) → FoundIn s.context t bytes x → ToldAs s x shown c → Tells s x shown c
+tells_in : (s : State) (t : Option OpPtr) (bytes : List ℕ) (x : Option OpPtr) (shown : List Node) (c : Close) → FoundIn s.context t bytes x → ToldAs s x shown c → Tells s x shown c
 tells_in s None bytes x shown c f h = subst (λ (o : Option OpPtr). Tells s o shown c) (sym f) (subst (λ (o : Option OpPtr). ToldAs s o shown c) f h)
 tells_in s (Some t) bytes x shown c f h = tells s t bytes x shown c f h
 
 -- a lookup that is not refused is done
-looked_up : (bad : Type 0) (named : Option OpPtr) (op : OpPtr) (rows : OpPtr → List (Refusal × Type 0)) (call : OpPtr → Result (Option OpPtr) Refusal → Type 0) (s : Session) (x : Option OpPtr) (shown : List Node) (c : Close)
+looked_up : (bad : Type 0) (named : Option OpPtr) (op : OpPtr) (rows : OpPtr → List (Refusal × Type 0)) (call : OpPtr → Result (Option OpPtr) Refusal → Type 0) (s : State) (x : Option OpPtr) (shown : List Node) (c : Close)
     → (bad → ⊥) → named ≡ Some op → NoRow (rows op) → call op (Ok x) → Tells s x shown c → Answers (edit_rows bad named rows) (LookedUp named call s) s (done shown c) s
 looked_up bad named op rows call s x shown c good is none answers tells = (
   (good, ((λ nothing. none_some (sym nothing ∙ is)), subst (λ p. NoRow (rows_of p rows)) (sym is) none)),
@@ -60,12 +60,12 @@ looked_up bad named op rows call s x shown c good is none answers tells = (
   },
 )
 
-pub lookup_done : (bad : Type 0) (named : Option OpPtr) (t : OpPtr) (bytes : List ℕ) (rows : OpPtr → List (Refusal × Type 0)) (s : Session) (x : Option OpPtr) (shown : List Node) (c : Close)
+pub lookup_done : (bad : Type 0) (named : Option OpPtr) (t : OpPtr) (bytes : List ℕ) (rows : OpPtr → List (Refusal × Type 0)) (s : State) (x : Option OpPtr) (shown : List Node) (c : Close)
     → (bad → ⊥) → named ≡ Some t → NoRow (rows t) → LookupCall s.context t bytes (Ok x) → ToldAs s x shown c → Answers (edit_rows bad named rows) (LookedUp named (λ o. LookupCall s.context o bytes) s) s (done shown c) s
 lookup_done bad named t bytes rows s x shown c good is none h told =
     looked_up bad named t rows (λ o. LookupCall s.context o bytes) s x shown c good is none h (tells s t bytes x shown c h.1 told)
 
-pub nearest_lookup_done : (bad : Type 0) (named : Option OpPtr) (op : OpPtr) (bytes : List ℕ) (rows : OpPtr → List (Refusal × Type 0)) (s : Session) (x : Option OpPtr) (shown : List Node) (c : Close)
+pub nearest_lookup_done : (bad : Type 0) (named : Option OpPtr) (op : OpPtr) (bytes : List ℕ) (rows : OpPtr → List (Refusal × Type 0)) (s : State) (x : Option OpPtr) (shown : List Node) (c : Close)
     → (bad → ⊥) → named ≡ Some op → NoRow (rows op) → NearestLookupCall s.context op bytes (Ok x) → ToldAs s x shown c → Answers (edit_rows bad named rows) (LookedUp named (λ o. NearestLookupCall s.context o bytes) s) s (done shown c) s
 nearest_lookup_done bad named op bytes rows s x shown c good is none h told =
     looked_up bad named op rows (λ o. NearestLookupCall s.context o bytes) s x shown c good is none h (tells_in s h.1.table bytes x shown c h.1.found told)
@@ -105,6 +105,6 @@ pub one_nearest_lookup : (s : Context) (bytes : List ℕ) (op : OpPtr) (x y : Op
 one_nearest_lookup s bytes op x y h k = one_found_nearest s op bytes x y h.1 k.1
 
 -- what was found is told in one way
-pub one_telling : (s : Session) (x : Option OpPtr) (ns ms : List Node) (c d : Close) → Tells s x ns c → Tells s x ms d → (ns ≡ ms) × (c ≡ d)
+pub one_telling : (s : State) (x : Option OpPtr) (ns ms : List Node) (c d : Close) → Tells s x ns c → Tells s x ms d → (ns ≡ ms) × (c ≡ d)
 one_telling s None ns ms c d h k = (h.0 ∙ sym k.0, h.1 ∙ sym k.1)
 one_telling s (Some op) ns ms c d h k = (one_numbers s (node.Operation op ∷ []) ns ms h.0 k.0, h.1 ∙ sym k.1)

@@ -17,7 +17,7 @@ use Rattle.ir.specs.Calls.{MakeOperationCall, make_operation_rows}
 use Rattle.ir.specs.Stores.{nodes}
 use Rattle.script.specs.declared.node.Node.{Node}
 use Rattle.script.specs.declared.node.Close.{Close}
-use Rattle.script.specs.declared.session.Session.{Session}
+use Rattle.script.specs.declared.state.State.{State}
 use Rattle.script.specs.Prints.{Answer, refused, done}
 use Rattle.script.specs.declared.tag.Tag.TheVariants.{MakeOperation}
 use Rattle.script.specs.Makes.{kind_in, regions_in, name_in, operation_making, NumbersOut, OperationFieldMade}
@@ -25,13 +25,13 @@ use Rattle.script.specs.Sessions.{next_block, next_region}
 use Rattle.script.specs.Runs.{Answers, OperationRun, TagRun, answer_of}
 
 -- a row on top whose condition does not hold changes nothing
-pub below : (row : Refusal × Type 0) (rows : List (Refusal × Type 0)) (does : List Node → Close → Session → Type 0) (s : Session) (a : Answer) (t : Session)
+pub below : (row : Refusal × Type 0) (rows : List (Refusal × Type 0)) (does : List Node → Close → State → Type 0) (s : State) (a : Answer) (t : State)
     → (row.1 → ⊥) → Answers rows does s a t → Answers (row ∷ rows) does s a t
 below row rows does s (refused e) t n h = (inr (n, h.0), h.1)
 below row rows does s (done nodes close) t n h = ((n, h.0), h.1)
 
 -- a value that is long enough is run by its parts: its kind, the number of its regions, and the rest of its bytes
-pub long_enough : (s : Session) (value : List ℕ) (a : Answer) (t : Session) → 2 ≤ length value
+pub long_enough : (s : State) (value : List ℕ) (a : Answer) (t : State) → 2 ≤ length value
     → OperationRun s (kind_in value) (regions_in value) (take (length value - 2) (drop 2 value)) a t → TagRun s MakeOperation value a t
 long_enough s value a t long h =
     below _ (operation_making s (kind_in value) (regions_in value) (name_in value)) (OperationFieldMade s (kind_in value) (regions_in value) (name_in value)) s a t (λ short. omega arith)
@@ -59,7 +59,7 @@ as_many None xs is = ap length is
 as_many (Some x) xs is = ap length is
 
 -- there is a number for the body that was made with an operation
-pub body_left : (s : Session) (kind regs : ℕ) (name : List ℕ) (made : MadeOperation) (t : Context) (body : List BlockPtr)
+pub body_left : (s : State) (kind regs : ℕ) (name : List ℕ) (made : MadeOperation) (t : Context) (body : List BlockPtr)
     → (NumbersOut s kind regs name → ⊥) → MakeOperationCall s.context kind regs name (Ok made) t
     → MatchOption made.body (body ≡ []) (λ b. body ≡ b ∷ [])
     → next_block s + length body ≤ 512
@@ -74,7 +74,7 @@ body_left s kind regs name made t body room answered is =
     omega (arith, as_many made.body body is)
 
 -- there are numbers for the regions that were made with an operation
-pub regions_left : (s : Session) (kind regs : ℕ) (name : List ℕ) (made : MadeOperation) (t : Context) (own : List RegionPtr)
+pub regions_left : (s : State) (kind regs : ℕ) (name : List ℕ) (made : MadeOperation) (t : Context) (own : List RegionPtr)
     → (NumbersOut s kind regs name → ⊥) → MakeOperationCall s.context kind regs name (Ok made) t → own ≡ made.regions
     → next_region s + length own ≤ 512
 regions_left s kind regs name made t own room answered is =
@@ -85,7 +85,7 @@ regions_left s kind regs name made t own room answered is =
     omega arith
 
 -- an operation is refused as the store refuses it where there are numbers for it
-pub making_refused : (s u : Session) (kind regs : ℕ) (name : List ℕ) (e : Refusal) (shown : List Node) (r : Result Close Refusal) → (NumbersOut s kind regs name → ⊥)
+pub making_refused : (s u : State) (kind regs : ℕ) (name : List ℕ) (e : Refusal) (shown : List Node) (r : Result Close Refusal) → (NumbersOut s kind regs name → ⊥)
     → Uppermost (make_operation_rows s.context kind regs name) e → u ≡ s → IsErrAnd r (λ f. f ≡ e) → OperationRun s kind regs name (answer_of shown r) u
 making_refused s u kind regs name e shown (Ok x) room h same err = absurd err
 making_refused s u kind regs name e shown (Err f) room h same err = (subst (λ g. Uppermost (operation_making s kind regs name) g) (sym err) (inr (room, h)), same)

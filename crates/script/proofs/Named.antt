@@ -13,7 +13,7 @@ use Rattle.ir.specs.declared.context.Context.{Context}
 use Rattle.script.specs.declared.node.Node.{Node}
 use Rattle.script.specs.declared.node.Close.{Close}
 use Rattle.script.specs.declared.node.Close.TheVariants.{Nothing}
-use Rattle.script.specs.declared.session.Session.{Session}
+use Rattle.script.specs.declared.state.State.{State}
 use Rattle.script.specs.Prints.{done}
 use Rattle.script.specs.Fields.{number_at}
 use Rattle.script.specs.Sessions.{operations, blocks, regions}
@@ -56,12 +56,12 @@ second_missing (Some b) None a e (Ok x) h k err = absurd err
 second_missing {A} {B} (Some b) None a e (Err f) h k err = let p : Option B = None in ap Err (err ∙ (missing p e k).1)
 
 -- what was found for the numbers of a table and an operation is what the value names
-pub pair_is : (s : Session) (value : List ℕ) (table op : ℕ) (found : OpPtr × OpPtr) → table ≡ number_at value 0 → op ≡ number_at value 2 → Ok found ≡ ok_or (pair_given s table op) BadOrdinal → pair_named s value ≡ Some found
+pub pair_is : (s : State) (value : List ℕ) (table op : ℕ) (found : OpPtr × OpPtr) → table ≡ number_at value 0 → op ≡ number_at value 2 → Ok found ≡ ok_or (pair_given s table op) BadOrdinal → pair_named s value ≡ Some found
 pair_is s value table op found t o h =
     ap (λ k. pair_given s k (number_at value 2)) (sym t) ∙ ap (λ k. pair_given s table k) (sym o) ∙ there _ found h
 
 -- the same with a point
-module _ (s : Session) (value : List ℕ) (table op how node : ℕ) (t : table ≡ number_at value 0) (o : op ≡ number_at value 2) (w : how ≡ slice_index value 4) (n : node ≡ number_at value 5) where
+module _ (s : State) (value : List ℕ) (table op how node : ℕ) (t : table ≡ number_at value 0) (o : op ≡ number_at value 2) (w : how ≡ slice_index value 4) (n : node ≡ number_at value 5) where
   insert_read : insert_named s value ≡ insert_given s table op how node
   insert_read =
       ap (λ k. insert_given s k (number_at value 2) (slice_index value 4) (number_at value 5)) (sym t)
@@ -79,7 +79,7 @@ something : {A : Type 0} (o : Option A) (a : A) → o ≡ Some a → o ≡ None 
 something o a is none = cc
 
 -- a field whose value names something is refused as the store's call is
-pub edit_refused : {A : Type 0} (bad : Type 0) (o : Option A) (a : A) (rows : A → List (Refusal × Type 0)) (does : List Node → Close → Session → Type 0) (s u : Session) (e : Refusal) (shown : List Node) (r : Result Close Refusal)
+pub edit_refused : {A : Type 0} (bad : Type 0) (o : Option A) (a : A) (rows : A → List (Refusal × Type 0)) (does : List Node → Close → State → Type 0) (s u : State) (e : Refusal) (shown : List Node) (r : Result Close Refusal)
     → (bad → ⊥) → o ≡ Some a → Uppermost (rows a) e → u ≡ s → IsErrAnd r (λ f. f ≡ e) → Answers (edit_rows bad o rows) does s (answer_of shown r) u
 edit_refused bad o a rows does s u e shown (Ok x) good is h same err = absurd err
 edit_refused bad o a rows does s u e shown (Err f) good is h same err =
@@ -87,7 +87,7 @@ edit_refused bad o a rows does s u e shown (Err f) good is h same err =
     (subst (λ g. Uppermost (edit_rows bad o rows) g) (sym err) row, same)
 
 -- and else is done
-pub edit_done : {A : Type 0} (bad : Type 0) (o : Option A) (a : A) (rows : A → List (Refusal × Type 0)) (call : A → Result (Unit {0}) Refusal → Context → Type 0) (s u : Session) (shown : List Node)
+pub edit_done : {A : Type 0} (bad : Type 0) (o : Option A) (a : A) (rows : A → List (Refusal × Type 0)) (call : A → Result (Unit {0}) Refusal → Context → Type 0) (s u : State) (shown : List Node)
     → (bad → ⊥) → o ≡ Some a → NoRow (rows a) → call a (Ok tt) u.context → operations u ≡ operations s → blocks u ≡ blocks s → regions u ≡ regions s → shown ≡ [] → Answers (edit_rows bad o rows) (Edited o call s) s (done shown Nothing) u
 edit_done bad o a rows call s u shown good is none stored ops bls regs blank = (
   (good, (something o a is, subst (λ p. NoRow (rows_of p rows)) (sym is) none)),
@@ -104,7 +104,7 @@ edit_done bad o a rows call s u shown good is none stored ops bls regs blank = (
 )
 
 -- a field whose value names nothing is refused
-pub edit_unnamed : {A : Type 0} (bad : Type 0) (o : Option A) (rows : A → List (Refusal × Type 0)) (does : List Node → Close → Session → Type 0) (s u : Session) (e : Refusal) (shown : List Node) (r : Result Close Refusal)
+pub edit_unnamed : {A : Type 0} (bad : Type 0) (o : Option A) (rows : A → List (Refusal × Type 0)) (does : List Node → Close → State → Type 0) (s u : State) (e : Refusal) (shown : List Node) (r : Result Close Refusal)
     → (bad → ⊥) → (o ≡ None) × (e ≡ BadOrdinal) → u ≡ s → IsErrAnd r (λ f. f ≡ e) → Answers (edit_rows bad o rows) does s (answer_of shown r) u
 edit_unnamed bad o rows does s u e shown (Ok x) good none same err = absurd err
 edit_unnamed bad o rows does s u e shown (Err f) good none same err = (inr (good, inl (err ∙ none.1, none.0)), same)

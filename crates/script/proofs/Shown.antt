@@ -1,11 +1,12 @@
 -- A walk of a script: every node shown has a number, and there is one log.
-use Rattle.std.proofs.Common.{◌≡◌, ℕ, ◌+◌, ◌<◌, ◌≤◌, Bool, true, cond, List, [], ◌∷◌, ◌++◌, ◌⊎◌, length, map, slice_get, Some, None, Option, sym, refl, ap, ap₂, ◌∙◌, subst, inl, inr, ⊎_elim, append_assoc, append-nil, arith, length-append}
+use Rattle.std.proofs.Common.{◌≡◌, ℕ, ◌+◌, ◌<◌, ◌≤◌, Bool, true, cond, List, [], ◌∷◌, ◌++◌, ◌⊎◌, length, map, slice_get, Some, None, Option, Ok, Err, Result, sym, refl, ap, ap₂, ◌∙◌, subst, inl, inr, ⊎_elim, append_assoc, append-nil, arith, length-append}
 use mathlib.Core.HLevel.{×_prop, hedberg}
 use mathlib.Core.Logic.{∥∥₁_elim}
 use mathlib.Core.List.{is_set}
 use native.Mathlib.Bridge.{le_prop}
 use Rattle.std.specs.Option.{option_map}
 use Rattle.std.proofs.lemmas.Bool.{ne_eqb}
+use Rattle.result.specs.declared.refusal.Refusal.{Refusal}
 use Rattle.arena.proofs.Pooling.{live_within}
 use Rattle.linked_list.specs.Links.{In}
 use Rattle.linked_list.proofs.Lists.{none_some, some_same}
@@ -37,13 +38,14 @@ use Rattle.walkers.specs.Walks.{Reads, WalkedIn}
 use Rattle.walkers.proofs.Stores.{grows, have, kids_are, some_lists, up_is}
 use Rattle.script.specs.declared.node.Node.{Node}
 use Rattle.script.specs.declared.node.Node.TheVariants.{Operation, Block, Region}
-use Rattle.script.specs.declared.session.Session.{Session}
+use Rattle.script.specs.declared.state.State.{State}
 use Rattle.script.specs.declared.steering.Steering.{Steering}
 use Rattle.script.specs.declared.trail.Trail.{Trail}
-use Rattle.script.specs.Answers.{Steered, answer_at}
+use Rattle.script.specs.Answers.{AnsweredBy, Steered, answer_at}
 use Rattle.script.specs.Found.{AllFound}
 use Rattle.script.specs.Listed.{more_shown, shown_as}
 use Rattle.script.specs.Sessions.{operations, blocks, regions}
+use Rattle.script.specs.Trails.{TrailWalk}
 use Rattle.script.specs.Walks.{HasNumber, HaveNumbers, node_given, number_in}
 use Rattle.script.proofs.Keeping.{blocks_long, ops_long, regions_long}
 use Rattle.script.proofs.Steered.{Told, one_log}
@@ -77,7 +79,7 @@ block_once a b e = cc
 region_once : (a b : RegionPtr) → node.Region a ≡ node.Region b → a ≡ b
 region_once a b e = cc
 
-module _ (s : Session) (x : IRNode) where
+module _ (s : State) (x : IRNode) where
   equal : (n m : Node) → HasNumber s x n → HasNumber s x m → number_in n ≡ number_in m
   equal n m h k = let p = h.last m k.given in let q = k.last n h.given in omega arith
 
@@ -101,7 +103,7 @@ module _ (s : Session) (x : IRNode) where
   one_number (Region n) (Block m) h k = absurd (block_region ((is_block m k).1 ∙ sym (is_region n h).1))
   one_number (Region n) (Region m) h k = ap Region (equal (Region n) (Region m) h k)
 
-pub one_numbers : (s : Session) (xs : List IRNode) (ns ms : List Node) → HaveNumbers s xs ns → HaveNumbers s xs ms → ns ≡ ms
+pub one_numbers : (s : State) (xs : List IRNode) (ns ms : List Node) → HaveNumbers s xs ns → HaveNumbers s xs ms → ns ≡ ms
 one_numbers s [] [] [] h k = refl
 one_numbers s [] (n ∷ ns) ms h k = absurd h
 one_numbers s [] [] (m ∷ ms) h k = absurd k
@@ -141,31 +143,31 @@ logs_set = is_set (hedberg (λ a b. ⊎_elim (λ e. yes e) (λ ne. no ne) (shown
 says_set : IsSet (WalkResult (Unit {0}))
 says_set = hedberg (λ a b. ⊎_elim (λ e. yes e) (λ ne. no ne) (says_same a b))
 
-module _ (s : Context) (k : WalkConfig) (root : IRNode) (skip end : Option IRNode) where
+module _ (s : Context) (k : WalkConfig) (root : IRNode) (answer : IRNode → WalkResult (Unit {0})) where
   abbrev m : Model
   m = nodes s
 
   listed : (l : Lists m) (n c : IRNode) → parent m c ≡ Some n → In c (directed_children k m l n)
   listed l n c e = subst (λ (f : IRNode → List IRNode). In c (f n)) (kids_are s k l) ((have s k).listed n c (up_is m k c ∙ e))
 
-  told : (l : Lists m) (log : List One) → Steered skip end log → Told (parent m) (early k) (directed_children k m l) (listed l) (answer_at skip end) log
+  told : (l : Lists m) (log : List One) → AnsweredBy answer log → Told (parent m) (early k) (directed_children k m l) (listed l) answer log
   told l [] h = tt
   told l (x ∷ log) h = (h.0, told l log h.1)
 
-  pub one_walk : (log log' : List One) (r q : WalkResult (Unit {0})) → WalkedIn s k root log r → WalkedIn s k root log' q → Steered skip end log → Steered skip end log' → (log ≡ log') × (r ≡ q)
+  pub one_walk : (log log' : List One) (r q : WalkResult (Unit {0})) → WalkedIn s k root log r → WalkedIn s k root log' q → AnsweredBy answer log → AnsweredBy answer log' → (log ≡ log') × (r ≡ q)
   one_walk log log' r q w w' t t' =
       ∥∥₁_elim (some_lists s) (×_prop (logs_set log log') (says_set r q)) (λ (l : Lists m).
-      one_log (parent m) (early k) (directed_children k m l) (listed l) (answer_at skip end) root log log' r q (told l log t) (told l log' t') (w l) (w' l))
+      one_log (parent m) (early k) (directed_children k m l) (listed l) answer root log log' r q (told l log t) (told l log' t') (w l) (w' l))
 
 -- Every node shown has a number.
 
 options : IsSet (Option IRNode)
 options = option_set node_same
 
-has_prop : (s : Session) (x : IRNode) (n : Node) → IsProp (HasNumber s x n)
+has_prop : (s : State) (x : IRNode) (n : Node) → IsProp (HasNumber s x n)
 has_prop s x n a b = λ i. record { given = options _ _ a.given b.given i; last = λ m h. le_prop (a.last m h) (b.last m h) i }
 
-module _ (s : Session) (f : AllFound (nodes s.context) s.operations s.blocks s.regions) where
+module _ (s : State) (f : AllFound (nodes s.context) s.operations s.blocks s.regions) where
   abbrev tables : Model
   tables = nodes s.context
 
@@ -208,10 +210,10 @@ module _ (s : Session) (f : AllFound (nodes s.context) s.operations s.blocks s.r
           let l = live_within tables.regions.pool p.handle e in
           let z = regions_long s.context in f.regions_found.last n p (unmapped node.Region region_once (slice_get (regions s) n) p h) (omega arith)
 
-pub number_of_live : (s : Session) (x : IRNode) → is_live (nodes s.context) x ≡ true → HasNumber s x (shown_as s x)
+pub number_of_live : (s : State) (x : IRNode) → is_live (nodes s.context) x ≡ true → HasNumber s x (shown_as s x)
 number_of_live s x e = ∥∥₁_elim s.found (has_prop s x (shown_as s x)) (λ (f : AllFound (nodes s.context) s.operations s.blocks s.regions). live_number s f x e)
 
-module _ (s : Session) (k : WalkConfig) (root : IRNode) (log : List One) (r : WalkResult (Unit {0})) (w : WalkedIn s.context k root log r) (there : is_live (nodes s.context) root ≡ true) where
+module _ (s : State) (k : WalkConfig) (root : IRNode) (log : List One) (r : WalkResult (Unit {0})) (w : WalkedIn s.context k root log r) (there : is_live (nodes s.context) root ≡ true) where
   abbrev stored : Model
   stored = nodes s.context
 
@@ -244,6 +246,10 @@ module _ (s : Session) (k : WalkConfig) (root : IRNode) (log : List One) (r : Wa
   pub have_numbers : HaveNumbers s (shown_nodes log) (map (shown_as s) (shown_nodes log))
   have_numbers = numbers_of (shown_nodes log) has_number
 
+  -- and so have some of the nodes shown
+  pub some_numbers : (xs : List IRNode) → ((x : IRNode) → In x xs → In x (shown_nodes log)) → HaveNumbers s xs (map (shown_as s) xs)
+  some_numbers xs among = numbers_of xs (λ x i. has_number x (among x i))
+
 -- The trail lists what it is shown, and answers as is asked.
 
 module _ (s : Context) where
@@ -251,23 +257,32 @@ module _ (s : Context) where
   says t c n = answer_at t.steering.skip t.steering.end n
 
   abbrev moves : Trail → Context → IRNode → Trail
-  moves t c n = record t { nodes = record { items = more_shown t.nodes.items (shown_as t.session.now n) } }
+  moves t c n = record t { nodes = record t.nodes { now = record { items = more_shown t.nodes.now.items (shown_as t.state.now n) } } }
 
   pub steered : {v w : Trail} {log : List One} → Shows (Reads says moves s) v log w → Steered v.steering.skip v.steering.end log
   steered none = tt
   steered (more x {log} h t) = (h.0, subst (λ (y : Steering). Steered y.skip y.end log) (ap (λ (y : Trail). y.steering) h.1) (steered t))
 
-  one_more : (xs : List Node) (n : Node) → length xs < 1024 → more_shown xs n ≡ xs ++ n ∷ []
+  pub one_more : (xs : List Node) (n : Node) → length xs < 1024 → more_shown xs n ≡ xs ++ n ∷ []
   one_more xs n lt = ap (λ (b : Bool). cond b xs (xs ++ n ∷ [])) (ne_eqb (length xs) 1024 (λ e. omega arith))
 
-  pub listed_all : {v w : Trail} {log : List One} → Shows (Reads says moves s) v log w → length v.nodes.items + length (shown_nodes log) ≤ 1024
-      → w.nodes.items ≡ v.nodes.items ++ map (shown_as v.session.now) (shown_nodes log)
-  listed_all {v} none le = sym (append-nil v.nodes.items)
+  pub listed_all : {v w : Trail} {log : List One} → Shows (Reads says moves s) v log w → length v.nodes.now.items + length (shown_nodes log) ≤ 1024
+      → w.nodes.now.items ≡ v.nodes.now.items ++ map (shown_as v.state.now) (shown_nodes log)
+  listed_all {v} none le = sym (append-nil v.nodes.now.items)
   listed_all {v} (more {y} {z} x {log} h t) le =
-      let n = shown_as v.session.now x.node in
-      let items : y.nodes.items ≡ v.nodes.items ++ n ∷ [] = ap (λ (u : Trail). u.nodes.items) h.1 ∙ one_more v.nodes.items n (omega arith) in
-      let long = length-append v.nodes.items (n ∷ []) in
+      let n = shown_as v.state.now x.node in
+      let items : y.nodes.now.items ≡ v.nodes.now.items ++ n ∷ [] = ap (λ (u : Trail). u.nodes.now.items) h.1 ∙ one_more v.nodes.now.items n (omega arith) in
+      let long = length-append v.nodes.now.items (n ∷ []) in
       let size = ap length items in
       listed_all t (omega arith)
-      ∙ ap₂ (λ (l : List Node) (u : Session). l ++ map (shown_as u) (shown_nodes log)) items (ap (λ (u : Trail). u.session.now) h.1)
-      ∙ append_assoc v.nodes.items (n ∷ []) (map (shown_as v.session.now) (shown_nodes log))
+      ∙ ap₂ (λ (l : List Node) (u : State). l ++ map (shown_as u) (shown_nodes log)) items (ap (λ (u : Trail). u.state.now) h.1)
+      ∙ append_assoc v.nodes.now.items (n ∷ []) (map (shown_as v.state.now) (shown_nodes log))
+
+  -- the list that a walk's nodes are put into is the same one at the end
+  pub same_list : {v w : Trail} {log : List One} → Shows (Reads says moves s) v log w → w.nodes.ghost_name ≡ v.nodes.ghost_name
+  same_list none = refl
+  same_list (more x h t) = same_list t ∙ ap (λ (u : Trail). u.nodes.ghost_name) h.1
+
+  pub same_list_at_end : (k : WalkConfig) (root : IRNode) (v : Trail) (r : Result (WalkResult (Unit {0})) Refusal) (w : Trail) → TrailWalk s k root v r w → w.nodes.ghost_name ≡ v.nodes.ghost_name
+  same_list_at_end k root v (Ok x) w h = same_list h.1.shows
+  same_list_at_end k root v (Err e) w h = ap (λ (u : Trail). u.nodes.ghost_name) h.1

@@ -6,6 +6,9 @@ use Rattle.orders.specs.declared.walk_result.WalkResult.TheVariants.{Advance, Sk
 use Rattle.orders.specs.Logs.{Shown}
 use Rattle.records.specs.declared.ir_node.IRNode.{IRNode}
 use Rattle.records.specs.declared.ir_node.IRNode.TheVariants as node
+use Rattle.ir.specs.declared.context.Context.{Context}
+use Rattle.walkers.specs.Operations.{answered}
+use Rattle.walkers.specs.Walks.{always}
 
 -- the handles have one place and one version
 abbrev pub same_handle : Handle → Handle → Bool
@@ -32,7 +35,15 @@ is_at (Some m) n = same_node m n
 abbrev pub answer_at : Option IRNode → Option IRNode → IRNode → WalkResult (Unit {0})
 answer_at skip end n = cond (is_at end n) (Break tt) (cond (is_at skip n) Skip Advance)
 
+-- the answer where a table is walked: Skip at a table, which is nested there, and Advance at all others
+abbrev pub answer_in_table : Context → IRNode → WalkResult (Unit {0})
+answer_in_table s n = answered {V = Unit {0}} always tt s n
+
 -- each node of the log was answered so
+abbrev pub AnsweredBy : (IRNode → WalkResult (Unit {0})) → List (Shown IRNode (Unit {0})) → Type 0
+AnsweredBy answer [] = Unit {0}
+AnsweredBy answer (s ∷ log) = (s.answer ≡ answer s.node) × AnsweredBy answer log
+
+-- the same of a walk that is to answer Skip and Break at a node each
 abbrev pub Steered : Option IRNode → Option IRNode → List (Shown IRNode (Unit {0})) → Type 0
-Steered skip end [] = Unit {0}
-Steered skip end (s ∷ log) = (s.answer ≡ answer_at skip end s.node) × Steered skip end log
+Steered skip end log = AnsweredBy (answer_at skip end) log

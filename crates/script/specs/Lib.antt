@@ -10,8 +10,10 @@ pub mod Linkings
 pub mod Erasings
 pub mod Answers
 pub mod Walks
+pub mod TableWalks
 pub mod Symbols
 pub mod Lookups
 pub mod Listed
 pub mod Trails
 pub mod Runs
+pub mod Transcripts

@@ -17,7 +17,7 @@ use Rattle.ir.specs.Linkings.{InsertBlockCall, InsertOpCall, UnlinkBlockCall, Un
 use Rattle.script.specs.declared.node.Node.{Node}
 use Rattle.script.specs.declared.node.Close.{Close}
 use Rattle.script.specs.declared.node.Close.TheVariants.{Nothing}
-use Rattle.script.specs.declared.session.Session.{Session}
+use Rattle.script.specs.declared.state.State.{State}
 use Rattle.script.specs.Fields.{number_at}
 use Rattle.script.specs.Sessions.{operations, blocks, regions}
 
@@ -63,7 +63,7 @@ abbrev pub edit_rows : {A : Type 0} → Type 0 → Option A → (A → List (Ref
 edit_rows bad named rows = (BadField, bad) ∷ (BadOrdinal, named ≡ None) ∷ rows_of named rows
 
 -- the store does the call on what the value names; no node is numbered and none is shown
-pub record Edited {A : Type 0} (named : Option A) (call : A → Result (Unit {0}) Refusal → Context → Type 0) (s : Session) (shown : List Node) (close : Close) (t : Session) : Type 0 where
+pub record Edited {A : Type 0} (named : Option A) (call : A → Result (Unit {0}) Refusal → Context → Type 0) (s : State) (shown : List Node) (close : Close) (t : State) : Type 0 where
   pub what : A
   pub names : named ≡ Some what
   pub stored : call what (Ok tt) t.context
@@ -74,41 +74,41 @@ pub record Edited {A : Type 0} (named : Option A) (call : A → Result (Unit {0}
   pub closed : close ≡ Nothing
 
 -- the operation and its spot in a block, by the numbers of a session
-abbrev pub operation_link : Session → List ℕ → Option (OpPtr × Spot OpPtr BlockPtr)
+abbrev pub operation_link : State → List ℕ → Option (OpPtr × Spot OpPtr BlockPtr)
 operation_link s value = link_named (operations s) (blocks s) value
 
 -- the rows of linking an operation
-abbrev pub operation_link_rows : Session → List ℕ → List (Refusal × Type 0)
+abbrev pub operation_link_rows : State → List ℕ → List (Refusal × Type 0)
 operation_link_rows s value = edit_rows (NoLink value) (operation_link s value) (λ l. link_op_rows (nodes s.context) l.0 l.1)
 
 -- the operation is linked
-abbrev pub OperationFieldLinked : Session → List ℕ → List Node → Close → Session → Type 0
+abbrev pub OperationFieldLinked : State → List ℕ → List Node → Close → State → Type 0
 OperationFieldLinked s value = Edited (operation_link s value) (λ l. InsertOpCall s.context l.0 l.1) s
 
 -- the block and its spot in a region
-abbrev pub block_link : Session → List ℕ → Option (BlockPtr × Spot BlockPtr RegionPtr)
+abbrev pub block_link : State → List ℕ → Option (BlockPtr × Spot BlockPtr RegionPtr)
 block_link s value = link_named (blocks s) (regions s) value
 
 -- the rows of linking a block
-abbrev pub block_link_rows : Session → List ℕ → List (Refusal × Type 0)
+abbrev pub block_link_rows : State → List ℕ → List (Refusal × Type 0)
 block_link_rows s value = edit_rows (NoLink value) (block_link s value) (λ l. link_block_rows (nodes s.context) l.0 l.1)
 
 -- the block is linked
-abbrev pub BlockFieldLinked : Session → List ℕ → List Node → Close → Session → Type 0
+abbrev pub BlockFieldLinked : State → List ℕ → List Node → Close → State → Type 0
 BlockFieldLinked s value = Edited (block_link s value) (λ l. InsertBlockCall s.context l.0 l.1) s
 
 -- the rows of unlinking an operation
-abbrev pub operation_unlink_rows : Session → List ℕ → List (Refusal × Type 0)
+abbrev pub operation_unlink_rows : State → List ℕ → List (Refusal × Type 0)
 operation_unlink_rows s value = edit_rows (NoNumber value) (node_named (operations s) value) (unlink_op_rows (nodes s.context))
 
 -- the operation is unlinked
-abbrev pub OperationFieldUnlinked : Session → List ℕ → List Node → Close → Session → Type 0
+abbrev pub OperationFieldUnlinked : State → List ℕ → List Node → Close → State → Type 0
 OperationFieldUnlinked s value = Edited (node_named (operations s) value) (UnlinkOpCall s.context) s
 
 -- the rows of unlinking a block
-abbrev pub block_unlink_rows : Session → List ℕ → List (Refusal × Type 0)
+abbrev pub block_unlink_rows : State → List ℕ → List (Refusal × Type 0)
 block_unlink_rows s value = edit_rows (NoNumber value) (node_named (blocks s) value) (unlink_block_rows (nodes s.context))
 
 -- the block is unlinked
-abbrev pub BlockFieldUnlinked : Session → List ℕ → List Node → Close → Session → Type 0
+abbrev pub BlockFieldUnlinked : State → List ℕ → List Node → Close → State → Type 0
 BlockFieldUnlinked s value = Edited (node_named (blocks s) value) (UnlinkBlockCall s.context) s

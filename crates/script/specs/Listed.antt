@@ -7,16 +7,16 @@ use Rattle.script.specs.declared.node.Node.{Node}
 use Rattle.script.specs.declared.node.Node.TheVariants.{Operation, Block, Region}
 use Rattle.script.specs.declared.node.Close.{Close}
 use Rattle.script.specs.declared.node.Close.TheVariants.{Absent, Nothing}
-use Rattle.script.specs.declared.session.Session.{Session}
+use Rattle.script.specs.declared.state.State.{State}
 
 -- a node with the number given last at its place
-abbrev pub shown_as : Session → IRNode → Node
+abbrev pub shown_as : State → IRNode → Node
 shown_as s (node.Operation op) = Operation (slice_index (vec_items s.operations.latest) op.handle.place)
 shown_as s (node.BasicBlock block) = Block (slice_index (vec_items s.blocks.latest) block.handle.place)
 shown_as s (node.Region region) = Region (slice_index (vec_items s.regions.latest) region.handle.place)
 
 -- what a lookup found, listed with the number given last at its place, and what closes the line
-abbrev pub ToldAs : Session → Option OpPtr → List Node → Close → Type 0
+abbrev pub ToldAs : State → Option OpPtr → List Node → Close → Type 0
 ToldAs s None shown close = (shown ≡ []) × (close ≡ Absent)
 ToldAs s (Some op) shown close = (shown ≡ shown_as s (node.Operation op) ∷ []) × (close ≡ Nothing)
 

@@ -9,7 +9,7 @@ use Rattle.ir.specs.Tables.{LookupCall, NearestLookupCall, lookup_rows, nearest_
 use Rattle.script.specs.declared.node.Node.{Node}
 use Rattle.script.specs.declared.node.Close.{Close}
 use Rattle.script.specs.declared.node.Close.TheVariants.{Absent, Nothing}
-use Rattle.script.specs.declared.session.Session.{Session}
+use Rattle.script.specs.declared.state.State.{State}
 use Rattle.script.specs.Linkings.{edit_rows, node_named}
 use Rattle.script.specs.Sessions.{operations}
 use Rattle.script.specs.Walks.{HaveNumbers}
@@ -23,12 +23,12 @@ abbrev pub name_sought : List ℕ → List ℕ
 name_sought value = drop 2 value
 
 -- a lookup shows the operation that it found, with its number, or tells that there is none
-abbrev pub Tells : Session → Option OpPtr → List Node → Close → Type 0
+abbrev pub Tells : State → Option OpPtr → List Node → Close → Type 0
 Tells s None shown close = (shown ≡ []) × (close ≡ Absent)
 Tells s (Some op) shown close = HaveNumbers s (node.Operation op ∷ []) shown × (close ≡ Nothing)
 
 -- A name is looked up from the operation that a value names, and the line tells what is found. Nothing changes.
-pub record LookedUp (named : Option OpPtr) (call : OpPtr → Result (Option OpPtr) Refusal → Type 0) (s : Session) (shown : List Node) (close : Close) (t : Session) : Type 0 where
+pub record LookedUp (named : Option OpPtr) (call : OpPtr → Result (Option OpPtr) Refusal → Type 0) (s : State) (shown : List Node) (close : Close) (t : State) : Type 0 where
   pub op : OpPtr
   pub names : named ≡ Some op
   pub found : Option OpPtr
@@ -37,19 +37,19 @@ pub record LookedUp (named : Option OpPtr) (call : OpPtr → Result (Option OpPt
   pub kept : t ≡ s
 
 -- the rows of looking up a name in a table
-abbrev pub table_lookup_rows : Session → List ℕ → List (Refusal × Type 0)
+abbrev pub table_lookup_rows : State → List ℕ → List (Refusal × Type 0)
 table_lookup_rows s value =
     edit_rows (NoLookup value) (node_named (operations s) value) (λ t. lookup_rows (nodes s.context) t (name_sought value))
 
 -- the name is looked up in the table
-abbrev pub LookedUpInTable : Session → List ℕ → List Node → Close → Session → Type 0
+abbrev pub LookedUpInTable : State → List ℕ → List Node → Close → State → Type 0
 LookedUpInTable s value = LookedUp (node_named (operations s) value) (λ t. LookupCall s.context t (name_sought value)) s
 
 -- the rows of looking up a name in the table that is nearest to an operation
-abbrev pub nearest_table_lookup_rows : Session → List ℕ → List (Refusal × Type 0)
+abbrev pub nearest_table_lookup_rows : State → List ℕ → List (Refusal × Type 0)
 nearest_table_lookup_rows s value =
     edit_rows (NoLookup value) (node_named (operations s) value) (λ op. nearest_lookup_rows (nodes s.context) op (name_sought value))
 
 -- the name is looked up in the table that is nearest to the operation
-abbrev pub LookedUpInNearest : Session → List ℕ → List Node → Close → Session → Type 0
+abbrev pub LookedUpInNearest : State → List ℕ → List Node → Close → State → Type 0
 LookedUpInNearest s value = LookedUp (node_named (operations s) value) (λ op. NearestLookupCall s.context op (name_sought value)) s

@@ -6,7 +6,7 @@ use Rattle.records.specs.declared.making.MadeOperation.{MadeOperation}
 use Rattle.script.specs.declared.node.Node.{Node}
 use Rattle.script.specs.declared.node.Node.TheVariants.{Operation, Block, Region}
 use Rattle.script.specs.declared.numbers.Numbers.{Numbers}
-use Rattle.script.specs.declared.session.Session.{Session}
+use Rattle.script.specs.declared.state.State.{State}
 use Rattle.script.specs.Sessions.{operations, blocks, regions, next_operation, next_block, next_region}
 
 -- so many nodes of one kind, numbered from n on
@@ -27,7 +27,7 @@ pub record Numbered {T : Type 0} (kind : ℕ → Node) (place : T → ℕ) (new 
   pub shown : nodes' ≡ nodes ++ nodes_from kind (vec_len before.handles) (length new)
 
 -- what was made with an operation gets the next numbers, and is shown: the operation, its regions in order and its body
-pub record MadeNumbers (s : Session) (made : MadeOperation) (nodes : List Node) (t : Session) : Type 0 where
+pub record MadeNumbers (s : State) (made : MadeOperation) (nodes : List Node) (t : State) : Type 0 where
   pub operation : operations t ≡ operations s ++ (made.operation ∷ [])
   pub own_regions : regions t ≡ regions s ++ made.regions
   pub body : blocks t ≡ blocks s ++ option_to_list made.body

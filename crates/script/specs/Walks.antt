@@ -18,7 +18,7 @@ use Rattle.script.specs.declared.node.Node.{Node}
 use Rattle.script.specs.declared.node.Node.TheVariants.{Operation, Block, Region}
 use Rattle.script.specs.declared.node.Close.{Close}
 use Rattle.script.specs.declared.node.Close.TheVariants as close
-use Rattle.script.specs.declared.session.Session.{Session}
+use Rattle.script.specs.declared.state.State.{State}
 use Rattle.script.specs.declared.steering.Steering.{Steering}
 use Rattle.script.specs.Answers.{Steered}
 use Rattle.script.specs.Fields.{number_at}
@@ -55,27 +55,27 @@ config_asked value = record {
 }
 
 -- the node of a kind that has a number, where it was given
-abbrev pub node_given : Session → Node → Option IRNode
+abbrev pub node_given : State → Node → Option IRNode
 node_given s (Operation n) = option_map node.Operation (slice_get (operations s) n)
 node_given s (Block n) = option_map node.BasicBlock (slice_get (blocks s) n)
 node_given s (Region n) = option_map node.Region (slice_get (regions s) n)
 
 -- the same of a node that may be none
-abbrev pub maybe_given : Session → Option Node → Option (Option IRNode)
+abbrev pub maybe_given : State → Option Node → Option (Option IRNode)
 maybe_given s None = Some None
 maybe_given s (Some n) = option_map Some (node_given s n)
 
 -- the nodes that are answered Skip and Break, where their numbers were given
-abbrev pub steering_given : Session → Option Node → Option Node → Option Steering
+abbrev pub steering_given : State → Option Node → Option Node → Option Steering
 steering_given s skip end = option_map (λ p. record { skip = p.0; end = p.1 }) (option_zip (maybe_given s skip) (maybe_given s end))
 
 -- what a value names: the root, and the nodes that are answered Skip and Break
-abbrev pub walk_named : Session → List ℕ → Option (IRNode × Steering)
+abbrev pub walk_named : State → List ℕ → Option (IRNode × Steering)
 walk_named s value =
     option_zip (option_flatten (option_map (node_given s) (node_asked value 0))) (steering_given s (node_asked value 4) (node_asked value 7))
 
 -- the rows of a walk; that a node is not live is tested of the root alone
-abbrev pub walk_rows : Session → List ℕ → List (Refusal × Type 0)
+abbrev pub walk_rows : State → List ℕ → List (Refusal × Type 0)
 walk_rows s value = edit_rows (NoWalk value) (walk_named s value) (λ w. root_rows s.context w.0)
 
 -- a node's number
@@ -85,12 +85,12 @@ number_in (Block n) = n
 number_in (Region n) = n
 
 -- the node has this kind and this number, and got none later
-pub record HasNumber (s : Session) (x : IRNode) (n : Node) : Type 0 where
+pub record HasNumber (s : State) (x : IRNode) (n : Node) : Type 0 where
   pub given : node_given s n ≡ Some x
   pub last : (m : Node) → node_given s m ≡ Some x → number_in m ≤ number_in n
 
 -- one after another, the nodes have these kinds and numbers
-abbrev pub HaveNumbers : Session → List IRNode → List Node → Type 0
+abbrev pub HaveNumbers : State → List IRNode → List Node → Type 0
 HaveNumbers s [] [] = Unit {0}
 HaveNumbers s [] (n ∷ ns) = ⊥
 HaveNumbers s (x ∷ xs) [] = ⊥
@@ -104,7 +104,7 @@ close_of (say.Break b) = close.Break
 
 -- The store is walked from the root in the configuration that is asked for, and each node is answered as is asked; the line shows the
 -- nodes that the walk showed, in its order. Nothing changes.
-pub record FieldWalked (s : Session) (value : List ℕ) (shown : List Node) (close : Close) (t : Session) : Type 0 where
+pub record FieldWalked (s : State) (value : List ℕ) (shown : List Node) (close : Close) (t : State) : Type 0 where
   pub asked : IRNode × Steering
   pub names : walk_named s value ≡ Some asked
   pub log : List (Shown IRNode (Unit {0}))

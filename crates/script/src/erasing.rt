@@ -7,10 +7,10 @@ ghost use Rattle.script.specs.declared.tag.Tag.TheVariants.{EraseOperation, Eras
 
 use crate::link::read_number;
 use crate::node::{Close, Nodes};
-use crate::session::Session;
+use crate::state::State;
 use result::Refusal;
 
-impl Session {
+impl State {
     // Erases an operation, with all that lies below it.
     pub(crate) fn run_erase_operation(
         &mut self,

@@ -16,6 +16,7 @@ mod numbers;
 mod print;
 mod run;
 mod session;
+mod state;
 mod steering;
 mod symbol;
 mod symbols;

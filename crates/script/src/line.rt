@@ -7,6 +7,7 @@ use crate::field::read_field;
 use crate::node::{Close, Nodes};
 use crate::print::{print_done, print_refused};
 use crate::session::Session;
+use crate::state::State;
 use result::Refusal;
 
 // The answer of the line call.
@@ -56,7 +57,7 @@ impl Line {
 
 // Runs the field at a place, and prints its line at the buffer's start. What lies beyond the line stays.
 pub fn read_line(session: &mut Session, script: &[u8], place: usize, out: &mut [u8]) -> Line
-    ensures ran { Ran session.old script.now place out.old result session.new out.new }
+    ensures ran { Ran session.old.state script.now place out.old result session.new.state out.new }
     ensures onward { Onward script.now place out.old result }
 {
     if script.len() > 4096 || place > script.len() || out.len() < 8192 {
@@ -65,16 +66,15 @@ pub fn read_line(session: &mut Session, script: &[u8], place: usize, out: &mut [
     if place == script.len() {
         return Line::End;
     }
-    let mut nodes = Nodes::new();
-    let (answer, next) = session.run_field(script, place, &mut nodes);
+    let (answer, next) = session.state.run_field(script, place, &mut session.nodes);
     let length = match answer {
-        Ok(close) => print_done(out, place as u16, nodes.as_slice(), close),
+        Ok(close) => print_done(out, place as u16, session.nodes.as_slice(), close),
         Err(refusal) => print_refused(out, place as u16, refusal),
     };
     Line::Printed { length, next }
 }
 
-impl Session {
+impl State {
     // Runs the field at a place, and lists the nodes to show. Says what closes the line or why the field is refused, and where
     // to go on.
     // Kept: an answer with the next place beside it, since a refused field has one too.

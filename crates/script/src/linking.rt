@@ -7,10 +7,10 @@ ghost use Rattle.script.specs.declared.tag.Tag.TheVariants.{LinkOperation, LinkB
 
 use crate::link::{Link, read_number};
 use crate::node::{Close, Nodes};
-use crate::session::Session;
+use crate::state::State;
 use result::Refusal;
 
-impl Session {
+impl State {
     // Links an operation.
     pub(crate) fn run_link_operation(
         &mut self,

@@ -10,7 +10,7 @@ ghost use Rattle.script.specs.Runs.{answer_of, TagRun};
 ghost use Rattle.script.specs.declared.tag.Tag.TheVariants.{Lookup, NearestLookup};
 
 use crate::node::{Close, Node, Nodes};
-use crate::session::Session;
+use crate::state::State;
 use ir::{OpPtr, SymbolTable};
 use result::Refusal;
 
@@ -26,7 +26,7 @@ fn read(value: &[u8]) -> Result<(u16, &[u8]), Refusal>
     Ok((u16::from_be_bytes([*high, *low]), name))
 }
 
-impl Session {
+impl State {
     // Lists the operation that a lookup found, and says what closes the line.
     fn tell(&self, found: Option<OpPtr>, nodes: &mut Nodes) -> Close
         ensures { ToldAs self.now found nodes.new.items result }

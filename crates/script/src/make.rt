@@ -7,11 +7,11 @@ ghost use Rattle.script.specs.Runs.{answer_of, OperationRun, TagRun};
 ghost use Rattle.script.specs.declared.tag.Tag.TheVariants.{MakeOperation, MakeBlock};
 
 use crate::node::{Close, Nodes};
-use crate::session::Session;
+use crate::state::State;
 use records::Shape;
 use result::Refusal;
 
-impl Session {
+impl State {
     // Makes an operation: the value is a kind byte, a byte that counts its regions, and its name.
     pub(crate) fn run_make_operation(
         &mut self,

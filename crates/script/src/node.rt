@@ -22,8 +22,8 @@ impl Default for Node {
 }
 
 // The nodes that a line shows, in order: at most 1,024.
-// Kept: the list is lent to what fills it, beside the session, since given back by value at each step its 4,096 bytes took five times
-// the instructions of a whole line.
+// Kept: the session has the list, and lends it beside its state to what fills it: made anew for each line, or given back by value, its
+// 4,096 bytes took several times the instructions of the rest of a line.
 pub(crate) type Nodes = ArrayVec<Node, 1024>;
 
 // What stands after the nodes of a line.

@@ -12,6 +12,7 @@ use crate::node::Nodes;
 use crate::node_ptr::NodePtr;
 use crate::numbers::Numbers;
 use crate::session::Session;
+use crate::state::State;
 use ir::Context;
 use result::Refusal;
 use std::alloc::{AllocError, Global};
@@ -87,13 +88,24 @@ impl<T: NodePtr> Numbers<T> {
 impl Session {
     // A session with a fresh store, in which no node is numbered yet. All memory that it ever needs is taken here.
     pub fn new(heap: Global) -> Result<Session, AllocError>
+        ensures { IfOk result (λ s. Started s.state) }
+    {
+        let state = State::new(heap)?;
+        let nodes = Nodes::new();
+        Ok(Session { state, nodes })
+    }
+}
+
+impl State {
+    // A fresh store, in which no node is numbered yet.
+    fn new(heap: Global) -> Result<State, AllocError>
         ensures { IfOk result Started }
     {
         let context = Context::new(heap)?;
         let operations = Numbers::new(heap)?;
         let blocks = Numbers::new(heap)?;
         let regions = Numbers::new(heap)?;
-        Ok(Session {
+        Ok(State {
             context,
             operations,
             blocks,

@@ -3,11 +3,11 @@
 ghost use Rattle.script.specs.Runs.{answer_of, TagRun, ByteRun};
 
 use crate::node::{Close, Nodes};
-use crate::session::Session;
+use crate::state::State;
 use crate::tag::Tag;
 use result::Refusal;
 
-impl Session {
+impl State {
     // Runs the field that has this byte as its tag, and lists the nodes to show.
     #[tactic(auto, unfolding(crate::specs::Runs::ByteRun))]
     pub(crate) fn run(
@@ -35,11 +35,13 @@ impl Session {
             Tag::UnlinkBlock => self.run_unlink_block(value, nodes),
             Tag::InsertSymbol => self.run_insert_symbol(value, nodes),
             Tag::RemoveSymbol => self.run_remove_symbol(value, nodes),
+            Tag::EraseSymbol => self.run_erase_symbol(value, nodes),
             Tag::EraseOperation => self.run_erase_operation(value, nodes),
             Tag::EraseBlock => self.run_erase_block(value, nodes),
             Tag::Lookup => self.run_lookup(value, nodes),
             Tag::NearestLookup => self.run_nearest_lookup(value, nodes),
             Tag::Walk => self.run_walk(value, nodes),
+            Tag::TableWalk => self.run_table_walk(value, nodes),
         }
     }
 }

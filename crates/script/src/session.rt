@@ -1,16 +1,11 @@
 // The session of a script.
-ghost use Rattle.ir.specs.Stores.{nodes};
-ghost use Rattle.script.specs.Found.{AllFound};
+use crate::node::Nodes;
+use crate::state::State;
 
-use crate::numbers::Numbers;
-use ir::{BlockPtr, Context, OpPtr, RegionPtr};
-
-// What a script has made so far: its store, and the numbers of its nodes. Each live node has a number.
+// What a script has made so far, and the list that a field's nodes are put into. The list holds no more than the last line showed;
+// it stands here, so that no line pays for making it.
 #[derive(Drop)]
 pub struct Session {
-    pub(crate) context: Context,
-    pub(crate) operations: Numbers<OpPtr>,
-    pub(crate) blocks: Numbers<BlockPtr>,
-    pub(crate) regions: Numbers<RegionPtr>,
-    ghost found: { ∥ AllFound (nodes context) operations blocks regions ∥₁ },
+    pub(crate) state: State,
+    pub(crate) nodes: Nodes,
 }

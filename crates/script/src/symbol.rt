@@ -5,7 +5,7 @@ ghost use Rattle.result.specs.declared.refusal.Refusal.TheVariants.{BadField, Ba
 ghost use Rattle.script.specs.Fields.{number_at};
 ghost use Rattle.script.specs.Symbols.{NoInsert, NoPair, insert_given, pair_given, point_given};
 
-use crate::session::Session;
+use crate::state::State;
 use ir::{OpInsertionPoint, OpPtr};
 use result::Refusal;
 
@@ -33,11 +33,11 @@ impl Pair {
     }
 
     // The operations that have these numbers.
-    pub(crate) fn find(self, session: &Session) -> Result<(OpPtr, OpPtr), Refusal>
-        ensures { result ≡ ok_or (pair_given session.now self.table self.op) BadOrdinal }
+    pub(crate) fn find(self, state: &State) -> Result<(OpPtr, OpPtr), Refusal>
+        ensures { result ≡ ok_or (pair_given state.now self.table self.op) BadOrdinal }
     {
-        let table = session.operations.get(self.table)?;
-        let op = session.operations.get(self.op)?;
+        let table = state.operations.get(self.table)?;
+        let op = state.operations.get(self.op)?;
         Ok((table, op))
     }
 }
@@ -86,17 +86,17 @@ impl Insertion {
     // The operations and the point that have these numbers.
     pub(crate) fn find(
         self,
-        session: &Session,
+        state: &State,
     ) -> Result<((OpPtr, OpPtr), Option<OpInsertionPoint>), Refusal>
-        ensures { result ≡ ok_or (insert_given session.now self.pair.table self.pair.op self.how self.node) BadOrdinal }
+        ensures { result ≡ ok_or (insert_given state.now self.pair.table self.pair.op self.how self.node) BadOrdinal }
     {
-        let pair = self.pair.find(session)?;
-        let point = session.point(self.how, self.node)?;
+        let pair = self.pair.find(state)?;
+        let point = state.point(self.how, self.node)?;
         Ok((pair, point))
     }
 }
 
-impl Session {
+impl State {
     // The point of a byte, at the node that has a number. Without a point, and at one that was not set, the number is not read.
     fn point(&self, how: u8, node: u16) -> Result<Option<OpInsertionPoint>, Refusal>
         requires { how < 6 }

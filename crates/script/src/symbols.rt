@@ -1,16 +1,16 @@
-// Runs the fields that put a symbol into a table and take one out. Each method tests a row of its refusals in a line, from the top:
+// Runs the fields that put a symbol into a table, take one out and erase one. Each method tests a row of its refusals in a line, from the top:
 // the value, its numbers, and those of the store's call.
 // Kept: a field's value and the list of what it shows are lent side by side, see `Nodes`.
 ghost use Rattle.script.specs.Runs.{answer_of, TagRun};
-ghost use Rattle.script.specs.declared.tag.Tag.TheVariants.{InsertSymbol, RemoveSymbol};
+ghost use Rattle.script.specs.declared.tag.Tag.TheVariants.{EraseSymbol, InsertSymbol, RemoveSymbol};
 
 use crate::node::{Close, Nodes};
-use crate::session::Session;
+use crate::state::State;
 use crate::symbol::{Insertion, Pair};
 use ir::SymbolTable;
 use result::Refusal;
 
-impl Session {
+impl State {
     // Puts a symbol into a table.
     pub(crate) fn run_insert_symbol(
         &mut self,
@@ -37,6 +37,21 @@ impl Session {
         let pair = Pair::read(value)?;
         let (table, op) = pair.find(self)?;
         SymbolTable::new(table).remove(&mut self.context, op)?;
+        nodes.clear();
+        Ok(Close::Nothing)
+    }
+
+    // Takes a symbol out of a table and erases it, with all that lies below it.
+    pub(crate) fn run_erase_symbol(
+        &mut self,
+        value: &[u8],
+        nodes: &mut Nodes,
+    ) -> Result<Close, Refusal>
+        ensures { TagRun self.old EraseSymbol value.now (answer_of nodes.new.items result) self.new }
+    {
+        let pair = Pair::read(value)?;
+        let (table, op) = pair.find(self)?;
+        SymbolTable::new(table).erase(&mut self.context, op)?;
         nodes.clear();
         Ok(Close::Nothing)
     }

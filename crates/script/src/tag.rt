@@ -14,11 +14,13 @@ pub(crate) enum Tag {
     UnlinkBlock = 6,
     InsertSymbol = 7,
     RemoveSymbol = 8,
+    EraseSymbol = 9,
     EraseOperation = 10,
     EraseBlock = 11,
     Lookup = 12,
     NearestLookup = 13,
     Walk = 14,
+    TableWalk = 15,
 }
 
 impl TryFrom<u8> for Tag {
@@ -36,11 +38,13 @@ impl TryFrom<u8> for Tag {
             6 => Ok(Tag::UnlinkBlock),
             7 => Ok(Tag::InsertSymbol),
             8 => Ok(Tag::RemoveSymbol),
+            9 => Ok(Tag::EraseSymbol),
             10 => Ok(Tag::EraseOperation),
             11 => Ok(Tag::EraseBlock),
             12 => Ok(Tag::Lookup),
             13 => Ok(Tag::NearestLookup),
             14 => Ok(Tag::Walk),
+            15 => Ok(Tag::TableWalk),
             _ => Err(Refusal::UnknownTag),
         }
     }

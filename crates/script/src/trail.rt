@@ -4,18 +4,18 @@ ghost use Rattle.script.specs.Answers.{answer_at};
 ghost use Rattle.script.specs.Listed.{more_shown, shown_as};
 
 use crate::node::{Node, Nodes};
-use crate::session::Session;
+use crate::state::State;
 use crate::steering::Steering;
 use ir::Context;
 use records::IRNode;
 use walkers::{Visitor, WalkResult};
 
-// The nodes shown so far, with their numbers in a session. No walk shows more than the list holds.
+// The list of the nodes shown so far, with their numbers in a session. No walk shows more than the list holds.
 #[derive(Drop)]
 pub(crate) struct Trail<'a> {
-    pub(crate) session: &'a Session,
+    pub(crate) state: &'a State,
     pub(crate) steering: Steering,
-    pub(crate) nodes: Nodes,
+    pub(crate) nodes: &'a mut Nodes,
 }
 
 impl Visitor for Trail<'_> {
@@ -23,17 +23,17 @@ impl Visitor for Trail<'_> {
 
     ghost answer = { λ t c n. answer_at t.steering.skip t.steering.end n };
 
-    ghost next = { λ t c n. record t { nodes = record { items = more_shown t.nodes.items (shown_as t.session.now n) } } };
+    ghost next = { λ t c n. record t { nodes = record t.nodes { now = record { items = more_shown t.nodes.now.items (shown_as t.state.now n) } } } };
 
     fn visit(&mut self, _context: &Context, node: IRNode) -> WalkResult<()> {
         if !self.nodes.is_full() {
-            self.nodes.push(self.session.shown(node));
+            self.nodes.push(self.state.shown(node));
         }
         self.steering.answer(node)
     }
 }
 
-impl Session {
+impl State {
     // A node as a line shows it: with the number given last at its place.
     fn shown(&self, node: IRNode) -> Node
         ensures { result ≡ shown_as self.now node }

@@ -6,7 +6,7 @@ ghost use Rattle.result.specs.declared.refusal.Refusal.TheVariants.{BadField, Ba
 ghost use Rattle.script.specs.Walks.{NoWalk, config_asked, kinds, maybe_given, node_asked, node_given, pair_of, steering_given};
 
 use crate::node::Node;
-use crate::session::Session;
+use crate::state::State;
 use crate::steering::Steering;
 use records::IRNode;
 use result::Refusal;
@@ -88,17 +88,17 @@ impl WalkField {
     }
 
     // The nodes that have these numbers.
-    pub(crate) fn find(self, session: &Session) -> Result<(IRNode, Steering), Refusal>
-        ensures { result ≡ ok_or (option_zip (node_given session.now self.root) (steering_given session.now self.skip self.end)) BadOrdinal }
+    pub(crate) fn find(self, state: &State) -> Result<(IRNode, Steering), Refusal>
+        ensures { result ≡ ok_or (option_zip (node_given state.now self.root) (steering_given state.now self.skip self.end)) BadOrdinal }
     {
-        let root = session.find(self.root)?;
-        let skip = session.find_any(self.skip)?;
-        let end = session.find_any(self.end)?;
+        let root = state.find(self.root)?;
+        let skip = state.find_any(self.skip)?;
+        let end = state.find_any(self.end)?;
         Ok((root, Steering { skip, end }))
     }
 }
 
-impl Session {
+impl State {
     // The node of a kind that has a number.
     fn find(&self, node: Node) -> Result<IRNode, Refusal>
         ensures { result ≡ ok_or (node_given self.now node) BadOrdinal }

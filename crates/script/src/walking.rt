@@ -1,19 +1,21 @@
-// Runs the field that walks.
+// Runs the fields that walk.
 // Kept: a field's value and the list of what it shows are lent side by side, see `Nodes`.
 ghost use Rattle.std.specs.Prelude.{◌≡◌};
 ghost use Rattle.script.specs.Runs.{answer_of, TagRun};
-ghost use Rattle.script.specs.Trails.{TrailWalk};
+ghost use Rattle.script.specs.Trails.{TrailTableWalk, TrailWalk};
 ghost use Rattle.script.specs.Walks.{close_of};
-ghost use Rattle.script.specs.declared.tag.Tag.TheVariants.{Walk};
+ghost use Rattle.script.specs.declared.tag.Tag.TheVariants.{TableWalk, Walk};
 
+use crate::link::read_number;
 use crate::node::{Close, Nodes};
-use crate::session::Session;
+use crate::state::State;
+use crate::steering::Steering;
 use crate::trail::Trail;
 use crate::walk::WalkField;
-use records::IRNode;
+use records::{IRNode, OpPtr};
 use result::Refusal;
 use walkers::interruptible::immutable::{walk_block, walk_op, walk_region};
-use walkers::{WalkConfig, WalkResult};
+use walkers::{OperationsOnly, WalkConfig, WalkResult, walk_symbol_table};
 
 // What closes the line of a walk.
 fn close(said: WalkResult<()>) -> Close
@@ -25,7 +27,7 @@ fn close(said: WalkResult<()>) -> Close
     }
 }
 
-impl Session {
+impl State {
     // Walks from a node of any kind.
     fn walk(
         &self,
@@ -33,7 +35,8 @@ impl Session {
         root: IRNode,
         trail: &mut Trail<'_>,
     ) -> Result<WalkResult<()>, Refusal>
-        ensures { TrailWalk self.now.context config root trail.old result trail.new }
+        ensures walk { TrailWalk self.now.context config root trail.old result trail.new }
+        ensures same_reference { trail.new.nodes.ghost_name ≡ trail.old.nodes.ghost_name }
     {
         match root {
             IRNode::Operation(op) => walk_op(&self.context, config, op, trail),
@@ -48,13 +51,45 @@ impl Session {
     {
         let walk = WalkField::read(value)?;
         let (root, steering) = walk.find(self)?;
+        nodes.clear();
         let mut trail = Trail {
-            session: self,
+            state: self,
             steering,
-            nodes: Nodes::new(),
+            nodes,
         };
         let said = self.walk(walk.config, root, &mut trail)?;
-        *nodes = trail.nodes;
         Ok(close(said))
+    }
+
+    // Walks a symbol table.
+    fn walk_table(
+        &self,
+        table: OpPtr,
+        visitor: &mut OperationsOnly<Trail<'_>>,
+    ) -> Result<(), Refusal>
+        ensures walk { TrailTableWalk self.now.context table visitor.old result visitor.new }
+        ensures same_reference { visitor.new.inner.nodes.ghost_name ≡ visitor.old.inner.nodes.ghost_name }
+    {
+        walk_symbol_table(&self.context, table, visitor)
+    }
+
+    // Walks a symbol table, and lists the operations shown.
+    pub(crate) fn run_table_walk(&self, value: &[u8], nodes: &mut Nodes) -> Result<Close, Refusal>
+        ensures { TagRun self.now TableWalk value.now (answer_of nodes.new.items result) self.now }
+    {
+        let number = read_number(value)?;
+        let table = self.operations.get(number)?;
+        nodes.clear();
+        let trail = Trail {
+            state: self,
+            steering: Steering {
+                skip: None,
+                end: None,
+            },
+            nodes,
+        };
+        let mut visitor = OperationsOnly { inner: trail };
+        self.walk_table(table, &mut visitor)?;
+        Ok(Close::End)
     }
 }

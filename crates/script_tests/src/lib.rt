@@ -4,6 +4,8 @@
 #[cfg(test)]
 mod linking;
 #[cfg(test)]
+mod table_walks;
+#[cfg(test)]
 mod tables;
 #[cfg(test)]
 mod tests;

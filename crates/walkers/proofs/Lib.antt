@@ -8,8 +8,10 @@ pub mod Stores
 pub mod Loops
 pub mod Unnoted
 pub mod Always
+pub mod Bare
 pub mod HeldSteps
 pub mod WalkLaws
 pub mod Setting
 pub mod Saying
 pub mod FourConfigs
+pub mod Tabling

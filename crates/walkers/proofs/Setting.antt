@@ -46,7 +46,7 @@ module _ (s t : Context) (op : OpPtr) (note : ℕ) where
           | inr ne ↦ ap (option_map unnoted) (e.noted.only.others q.handle (λ h. ne (same_opptr q op h)))
         ]
 
-    set : Noting s (with_note s op note) t
+    pub set : Noting s (with_note s op note) t
     set = record {
       notes_are = notes_are;
       only = record {

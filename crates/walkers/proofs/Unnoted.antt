@@ -52,7 +52,7 @@ module _ (m n : Model) (e : SameButNotes m n) where
   nth_kept : (i : ℕ) (p : OpPtr) → nth_region n i p ≡ nth_region m i p
   nth_kept i p = part_kept (λ o. item (regions_of o) i) (λ o. refl) p
 
-  block_links_kept : block_links n ≡ block_links m
+  pub block_links_kept : block_links n ≡ block_links m
   block_links_kept =
       ap (λ (a : Shelf BasicBlock). block_links (record { operations = n.operations; blocks = a; regions = n.regions })) e.blocks
       ∙ ap (λ (a : Shelf Region). block_links (record { operations = n.operations; blocks = m.blocks; regions = a })) e.regions
@@ -62,6 +62,17 @@ module _ (m n : Model) (e : SameButNotes m n) where
 
   op_tail : (b : BlockPtr) → (op_links n).tail b ≡ (op_links m).tail b
   op_tail b = ap (λ (a : Shelf BasicBlock). part (λ (x : BasicBlock). x.tail) (at a b.handle)) e.blocks
+
+  pub op_links_kept : op_links n ≡ op_links m
+  op_links_kept = λ i. record {
+    live = λ p. ap (λ (a : Pool). live a p.handle) e.places i;
+    held = λ b. ap (λ (a : Shelf BasicBlock). live a.pool b.handle) e.blocks i;
+    next = λ p. part_kept (λ o. o.next) (λ o. refl) p i;
+    prev = λ p. part_kept (λ o. o.prev) (λ o. refl) p i;
+    within = λ p. part_kept (λ o. o.container) (λ o. refl) p i;
+    head = λ b. op_head b i;
+    tail = λ b. op_tail b i;
+  }
 
   first_kept : (x : IRNode) → first_child n x ≡ first_child m x
   first_kept (node.Operation p) = ap (option_map node.Region) (nth_kept 0 p)

@@ -26,17 +26,17 @@ turned_order : (o : Order) → is_pre (other_order o) ≡ not (is_pre o)
 turned_order PreOrder = refl
 turned_order PostOrder = refl
 
-turned_direction : (d : Direction) (ns : List IRNode) → directed (other_direction d) ns ≡ reverse (directed d ns)
+pub turned_direction : (d : Direction) (ns : List IRNode) → directed (other_direction d) ns ≡ reverse (directed d ns)
 turned_direction Forward ns = refl
 turned_direction Reverse ns = sym (reverse-reverse ns)
 
-mirrored_pair : (k : WalkConfig) (n : IRNode) → as_parent (mirror k) n ≡ other_pair (as_parent k n)
+pub mirrored_pair : (k : WalkConfig) (n : IRNode) → as_parent (mirror k) n ≡ other_pair (as_parent k n)
 mirrored_pair k (node.Operation op) = refl
 mirrored_pair k (node.BasicBlock block) = refl
 mirrored_pair k (node.Region region) = refl
 
 -- in the mirrored configuration nodes are early that were not, and children come from the last to the first
-mirrored_early : (k : WalkConfig) (n : IRNode) → early (mirror k) n ≡ not (early k n)
+pub mirrored_early : (k : WalkConfig) (n : IRNode) → early (mirror k) n ≡ not (early k n)
 mirrored_early k n = ap (λ (p : Order × Direction). is_pre p.0) (mirrored_pair k n) ∙ turned_order (as_parent k n).0
 
 mirrored_children : (s : Context) (k : WalkConfig) (l : Lists (nodes s)) (n : IRNode) → directed_children (mirror k) (nodes s) l n ≡ reverse (directed_children k (nodes s) l n)

@@ -4,4 +4,6 @@ pub mod Children
 pub mod Notes
 pub mod Operations
 pub mod Walks
+pub mod TableWalks
+pub mod Bare
 pub mod HeldWalks

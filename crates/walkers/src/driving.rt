@@ -51,7 +51,7 @@ pub(crate) fn is_live(context: &Context, node: IRNode) -> bool
 }
 
 // Shows a reading visitor the nodes of a walk.
-fn drive<V: Visitor>(
+pub(crate) fn drive<V: Visitor>(
     context: &Context,
     config: WalkConfig,
     root: IRNode,

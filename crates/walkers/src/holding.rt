@@ -1,9 +1,8 @@
 // Starting a walk that is held, and its steps.
-ghost use Rattle.std.specs.Prelude.{◌≡◌, ◌<◌, [], MatchResult, None, Some};
-ghost use Rattle.result.specs.Rows.{NoRow, Uppermost};
+ghost use Rattle.std.specs.Prelude.{◌≡◌, ◌<◌, Some};
 ghost use Rattle.records.specs.declared.ir_node.IRNode.{IRNode};
-ghost use Rattle.walkers.specs.HeldWalks.{Begins, Stands, Steps, to_come};
-ghost use Rattle.walkers.specs.Walks.{root_rows};
+ghost use Rattle.walkers.specs.Bare.{bare};
+ghost use Rattle.walkers.specs.HeldWalks.{HeldCall, Steps, to_come};
 
 use crate::config::WalkConfig;
 use crate::driving::{is_live, node_at};
@@ -17,9 +16,7 @@ use result::Refusal;
 impl<'a> Walk<'a> {
     // A walk from a root that gave no node yet.
     pub fn new(context: &'a Context, config: WalkConfig, root: IRNode) -> Result<Walk<'a>, Refusal>
-        ensures { MatchResult result
-            (λ w. NoRow (root_rows context.now root) × Begins context.now config root w)
-            (λ e. Uppermost (root_rows context.now root) e) }
+        ensures { HeldCall context.now config root result }
     {
         if !is_live(context, root) {
             return Err(Refusal::Dangling);
@@ -34,7 +31,7 @@ impl<'a> Walk<'a> {
 
     // The next node, by the answer to the node given before; the first step ignores the answer.
     pub fn step<B>(&mut self, answer: &WalkResult<B>) -> Option<IRNode>
-        ensures steps { Steps self.old answer.now result self.new }
+        ensures steps { Steps self.old (bare answer.now) result self.new }
         ensures fewer { (n : IRNode) → result ≡ Some n → to_come self.new < to_come self.old }
     {
         self.at = after(self.context, self.config, self.root, self.at, answer);

@@ -12,6 +12,7 @@ mod links;
 mod mirroring;
 mod operations_only;
 mod steps;
+mod table_walk;
 pub mod uninterruptible;
 mod visitor;
 mod walk;
@@ -24,5 +25,6 @@ pub use config::{
 pub use laws::{lists_exist, mirrored_walk, mirrored_whole, one_whole, presets, seen_once};
 pub use operations_only::OperationsOnly;
 pub use orders::WalkResult;
+pub use table_walk::walk_symbol_table;
 pub use visitor::{Visitor, VisitorMut};
 pub use walk::Walk;

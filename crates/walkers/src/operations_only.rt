@@ -3,7 +3,7 @@
 ghost use Rattle.std.specs.Prelude.{◌≡◌};
 ghost use Rattle.records.specs.Nodes.{is_table};
 ghost use Rattle.ir.specs.Stores.{nodes};
-ghost use Rattle.walkers.specs.Operations.{answered, left, moved};
+ghost use Rattle.walkers.specs.Operations.{left, only_answer, only_next};
 
 use crate::visitor::{Visitor, VisitorMut};
 use ir::Context;
@@ -29,9 +29,9 @@ fn is_table(context: &Context, op: OpPtr) -> bool
 impl<V: Visitor> Visitor for OperationsOnly<V> {
     type Break = V::Break;
 
-    ghost answer = { λ s c n. answered V.answer s.inner c n };
+    ghost answer = { only_answer V.answer };
 
-    ghost next = { λ s c n. record { inner = moved V.next s.inner c n } };
+    ghost next = { only_next V.next };
 
     fn visit(&mut self, context: &Context, node: IRNode) -> WalkResult<V::Break> {
         match node {
@@ -50,9 +50,9 @@ impl<V: Visitor> Visitor for OperationsOnly<V> {
 impl<V: VisitorMut> VisitorMut for OperationsOnly<V> {
     type Break = V::Break;
 
-    ghost answer = { λ s c n. answered V.answer s.inner c n };
+    ghost answer = { only_answer V.answer };
 
-    ghost next = { λ s c n. record { inner = moved V.next s.inner c n } };
+    ghost next = { only_next V.next };
 
     ghost notes = { λ s c n. left V.notes s.inner c n };
 

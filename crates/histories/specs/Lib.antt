@@ -1,0 +1,11 @@
+pub mod Ledgers
+pub mod Feeding
+pub mod Tables
+pub mod Calls
+pub mod Histories
+pub mod Represents
+pub mod Judging
+pub mod Walking
+pub mod Telling
+pub mod Stepping
+pub mod Law

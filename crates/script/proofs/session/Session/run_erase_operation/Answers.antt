@@ -1,5 +1,0 @@
-use Rattle.script.proofs.Keeping.{found_op_erased}
-use Rattle.script.proofs.session.Session.run_erase_operation.Goals as goal
-
-pub invariant_of-self : goal.invariant_of-self
-invariant_of-self c = record { found = found_op_erased c.args.self.now _ _ _ c.erase_op.ensures }
