@@ -57,6 +57,13 @@ impl<T: Copy + Clone> Arena<T> {
             .is_some_and(|place| place.slot.is_live(h.version))
     }
 
+    // How many places there are.
+    pub fn capacity(&self) -> usize
+        ensures { result ≡ capacity self.now }
+    {
+        self.places.len()
+    }
+
     // How many records can still be made.
     pub fn room(&self) -> usize
         ensures { result ≡ room (shelf self.now).pool }

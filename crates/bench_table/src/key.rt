@@ -1,6 +1,5 @@
 // How a pair is compared and hashed, and where fresh pairs come from.
 ghost use Rattle.std.specs.Prelude.{◌≡◌, ◌+◌, ◌*◌, ◌%◌, ◌^◌};
-ghost use Rattle.std.proofs.Common.{rules};
 ghost use Rattle.bench_table.specs.Hashes.{pair_hash};
 
 use super::pair::Pair;
@@ -9,7 +8,9 @@ use table::Key;
 impl Key for Pair {
     ghost hashes = { pair_hash };
 
-    ghost same = { Prim.search rules };
+    fn same(&self, other: &Pair) -> bool {
+        self == other
+    }
 
     fn hash(&self) -> usize {
         let x = self.table.wrapping_mul(2654435761) ^ self.name;

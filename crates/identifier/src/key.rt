@@ -3,7 +3,6 @@ ghost use Rattle.std.specs.Prelude.{◌≡◌, Decides, nat_eq};
 ghost use Rattle.std.specs.Cmp.Lexicographic.{pointwise};
 ghost use Rattle.std.specs.Ordering.{on};
 ghost use Rattle.identifier.specs.declared.identifier.Identifier.{Identifier};
-ghost use Rattle.identifier.specs.Deciding.{told};
 ghost use Rattle.identifier.specs.Identifiers.{EqDecides, identifier_hash, text};
 
 use super::identifier::Identifier;
@@ -12,7 +11,10 @@ use table::Key;
 impl Key for Identifier {
     ghost hashes = { identifier_hash };
 
-    ghost same = { told };
+    #[tactic(auto, using(crate::proofs::Keys::told_apart))]
+    fn same(&self, other: &Identifier) -> bool {
+        self == other
+    }
 
     // FNV-1a, in 32 bits.
     fn hash(&self) -> usize {

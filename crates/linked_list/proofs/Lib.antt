@@ -1,5 +1,4 @@
 -- The lemmas of this crate.
-pub mod Same
 pub mod Lists
 pub mod Relist
 pub mod Relinks

@@ -33,10 +33,10 @@ module _ {N C : Type 0} (same : (a b : C) → (a ≡ b) ⊎ (a ≡ b → ⊥)) (
       let p = cut m (L c) (h.listed m c l i).1 in
       (p.0 ++ (m ∷ (n ∷ p.1.0)), (p.0, p.1.0, p.1.1, refl))
 
-  insert_sound : (spot : Spot N C) → spot_live v spot ≡ true → spot_in v spot ≡ Some c → Inserts v w n c spot → Sound v → Sound w
+  pub insert_sound : (spot : Spot N C) → spot_live v spot ≡ true → spot_in v spot ≡ Some c → Inserts v w n c spot → Sound v → Sound w
   insert_sound spot l i ins = edit_sound (Puts spot n) ins.lists (puts spot l i)
 
-  remove_sound : v.live n ≡ true → v.within n ≡ Some c → Removes v w n c → Sound v → Sound w
+  pub remove_sound : v.live n ≡ true → v.within n ≡ Some c → Removes v w n c → Sound v → Sound w
   remove_sound l i rem =
       edit_sound (Takes n) rem.lists (λ L h.
       let p = cut n (L c) (h.listed n c l i).1 in

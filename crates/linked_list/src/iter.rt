@@ -71,7 +71,7 @@ fn past_front<N: LinkedList>(ctx: &N::Store, n: N, back: Option<N>) -> Span<N>
     ensures end { back ≡ Some n → (result.front ≡ None) × (result.back ≡ None) }
     ensures on { (back ≢ Some n) → (result.front ≡ (N.LinkedList.view ctx.now).next n) × (result.back ≡ back) }
 {
-    if back == Some(n) {
+    if back.is_some_and(|b| N::same(b, n)) {
         return Span {
             front: None,
             back: None,
@@ -89,7 +89,7 @@ fn past_back<N: LinkedList>(ctx: &N::Store, n: N, front: Option<N>) -> Span<N>
     ensures end { front ≡ Some n → (result.front ≡ None) × (result.back ≡ None) }
     ensures on { (front ≢ Some n) → (result.front ≡ front) × (result.back ≡ (N.LinkedList.view ctx.now).prev n) }
 {
-    if front == Some(n) {
+    if front.is_some_and(|f| N::same(f, n)) {
         return Span {
             front: None,
             back: None,

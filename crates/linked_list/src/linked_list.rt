@@ -1,11 +1,11 @@
 // What a node must offer to stand in linked lists: reading and writing its links and its container's ends.
-ghost use Rattle.std.specs.Prelude.{◌≡◌, true, Decides, ◌⊎◌, ◌≢◌};
+ghost use Rattle.std.specs.Prelude.{◌≡◌, true, ◌⊎◌, ◌≢◌};
 ghost use Rattle.linked_list.specs.Links.{View, SetsNext, SetsPrev, SetsWithin, SetsHead, SetsTail};
 
 // A node that stands in a list of its container.
 // Kept: a getter and a setter for each link, a rule of the project. A setter writes one link and keeps no list in order, and only
 // the edits of this crate call it.
-pub trait LinkedList: Copy + Eq {
+pub trait LinkedList: Copy {
     // The store that holds the links.
     type Store;
     // What a list of these nodes belongs to.
@@ -18,6 +18,11 @@ pub trait LinkedList: Copy + Eq {
     ghost Rest: { Type 0 };
 
     ghost rest: { Self.Store → Rest };
+
+    // Whether the two are one node.
+    fn same(a: Self, b: Self) -> bool
+        ensures yes { result ≡ true → a ≡ b }
+        ensures no { a ≡ b → result ≡ true };
 
     // The node after `n`, if there is one.
     fn get_next(ctx: &Self::Store, n: Self) -> Option<Self>
@@ -74,8 +79,8 @@ pub trait LinkedList: Copy + Eq {
         ensures sets { SetsTail (view ctx.old) (view ctx.new) c x }
         ensures rest { rest ctx.new ≡ rest ctx.old };
 
-    // Equal nodes are one node.
-    ghost eq_decides: { (a b : Self) → Decides (Self.eq a b) (a ≡ b) };
+    // Two nodes are the same or not.
+    ghost nodes: { (a b : Self) → (a ≡ b) ⊎ (a ≢ b) };
 
     // Two containers are the same or not.
     ghost containers: { (a b : Self.ContainerType) → (a ≡ b) ⊎ (a ≢ b) };

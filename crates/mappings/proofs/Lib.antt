@@ -1,4 +1,5 @@
 pub mod Counting
 pub mod Holding
+mod Keys
 pub mod Looking
 pub mod Reading

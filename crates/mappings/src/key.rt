@@ -1,7 +1,6 @@
 // Names in tables as keys of a map.
 ghost use Rattle.std.specs.Prelude.{◌≡◌};
 ghost use Rattle.mappings.specs.Hashing.{mixed, name_in_hash};
-ghost use Rattle.mappings.specs.Deciding.{told};
 
 use super::name_in::NameIn;
 use table::Key;
@@ -9,7 +8,10 @@ use table::Key;
 impl Key for NameIn {
     ghost hashes = { name_in_hash };
 
-    ghost same = { told };
+    #[tactic(auto, using(crate::proofs::Keys::told_apart))]
+    fn same(&self, other: &NameIn) -> bool {
+        self == other
+    }
 
     // Place, version and name, mixed one after another; the lower half of the last product is left out, since its bits are mixed least.
     fn hash(&self) -> usize {

@@ -5,6 +5,9 @@ use Rattle.std.proofs.lemmas.Bool.{cases_lt}
 use Rattle.names.specs.Places.{Stands, Absent}
 
 module _ {X : Type 0} where
+  pub one_value : (xs : List X) (i : ℕ) (x y : X) → Stands xs i x → Stands xs i y → x ≡ y
+  one_value xs i x y p q = sym (p.is x) ∙ q.is x
+
   pub stands_more : (xs : List X) (y : X) (i : ℕ) (x : X) → Stands xs i x → Stands (xs ++ y ∷ []) i x
   stands_more xs y i x s = record {
     within = let long = length_push xs y in let lt = s.within in omega arith;

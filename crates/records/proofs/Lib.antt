@@ -2,3 +2,4 @@ pub mod Regions
 pub mod Made
 pub mod Sums
 pub mod Rests
+pub mod Comparing

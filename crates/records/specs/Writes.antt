@@ -47,6 +47,9 @@ op_decides m n = Decides-like _ (same_opptr m n) (ap (λ (p : OpPtr). p.handle))
 pub block_decides : (m n : BlockPtr) → Decides ((m.handle.place == n.handle.place) && (m.handle.version == n.handle.version)) (m ≡ n)
 block_decides m n = Decides-like _ (same_blockptr m n) (ap (λ (p : BlockPtr). p.handle)) (handle_decides m.handle n.handle)
 
+pub region_decides : (m n : RegionPtr) → Decides ((m.handle.place == n.handle.place) && (m.handle.version == n.handle.version)) (m ≡ n)
+region_decides m n = Decides-like _ (same_regionptr m n) (ap (λ (p : RegionPtr). p.handle)) (handle_decides m.handle n.handle)
+
 -- two handles of one kind are the same or not
 ptr_same : {P : Type 0} (handle : P → Handle) (of : Handle → P) → ((p : P) → of (handle p) ≡ p) → (m n : P) → (m ≡ n) ⊎ (m ≢ n)
 ptr_same handle of back m n =

@@ -28,5 +28,5 @@ pub use operation::Operation;
 pub use ptr::Ptr;
 pub use records::Records;
 pub use region::Region;
-pub use region_list::RegionList;
+pub use region_list::{RegionList, regions_eq_decides};
 pub use shape::Shape;

@@ -6,7 +6,7 @@ ghost use Rattle.std.specs.Prelude.{◌≡◌, true};
 ghost use Rattle.linked_list.specs.Links.{SetsHead, SetsNext, SetsPrev, SetsTail, SetsWithin};
 ghost use Rattle.records.specs.Models.{Model};
 ghost use Rattle.records.specs.Views.{block_rest, block_view, op_rest, op_view};
-ghost use Rattle.records.specs.Writes.{block_decides, block_same, op_decides, region_same};
+ghost use Rattle.records.specs.Writes.{block_same, op_same, region_same};
 
 use crate::handles::{BlockPtr, OpPtr, RegionPtr};
 use crate::records::Records;
@@ -23,9 +23,13 @@ impl LinkedList for OpPtr {
 
     ghost rest = { op_rest };
 
-    ghost eq_decides = { op_decides };
+    ghost nodes = { λ a b. op_same a b };
 
     ghost containers = { λ a b. block_same a b };
+
+    fn same(a: OpPtr, b: OpPtr) -> bool {
+        a == b
+    }
 
     fn get_next(ctx: &Records, n: OpPtr) -> Option<OpPtr> {
         ctx.operations.record(n.handle).next
@@ -99,9 +103,13 @@ impl LinkedList for BlockPtr {
 
     ghost rest = { block_rest };
 
-    ghost eq_decides = { block_decides };
+    ghost nodes = { λ a b. block_same a b };
 
     ghost containers = { λ a b. region_same a b };
+
+    fn same(a: BlockPtr, b: BlockPtr) -> bool {
+        a == b
+    }
 
     fn get_next(ctx: &Records, n: BlockPtr) -> Option<BlockPtr> {
         ctx.blocks.record(n.handle).next

@@ -1,6 +1,7 @@
 // The regions of one operation, held inline.
-ghost use Rattle.std.specs.Prelude.{◌≡◌, ◌<◌, ◌≤◌, [], ◌∷◌, ◌++◌, length};
+ghost use Rattle.std.specs.Prelude.{◌≡◌, ◌<◌, ◌≤◌, List, [], ◌∷◌, ◌++◌, length, Decides};
 ghost use Rattle.arena.specs.Shelves.{item};
+ghost use Rattle.records.specs.declared.handles.RegionPtr.{RegionPtr};
 
 use crate::handles::{NOWHERE, RegionPtr};
 use std::marker::Model;
@@ -8,7 +9,7 @@ use std::marker::Model;
 // At most four regions, in order: the first `len` of `places`.
 // Kept: a length beside the places, held inline, since by a rule of the project a record has a fixed size and is copied whole; the kit's
 // `ArrayVec` is of a fixed size too, and is not `Copy`.
-#[derive(Clone, Copy)]
+#[derive(Clone, Copy, PartialEq, Eq)]
 pub struct RegionList {
     len: usize,
     places: [RegionPtr; 4],
@@ -74,3 +75,8 @@ impl RegionList {
         &self.places[..self.len]
     }
 }
+
+// What `==` answers tells whether two lists are one.
+pub fn regions_eq_decides()
+    ensures { (a b : List RegionPtr) → Decides (⟦<RegionList as PartialEq>⟧.eq a b) (a ≡ b) }
+{}

@@ -36,6 +36,15 @@ module _ {K V : Type 0} where
 
   -- Counting.
 
+  weigh_most : (e : MapEntry K V) → weigh e ≤ 1
+  weigh_most None = omega arith
+  weigh_most (Some (k, v)) = omega arith
+
+  pub used_most : (es : List (MapEntry K V)) → used es ≤ length es
+  unfolding used
+  used_most [] = omega arith
+  used_most (e ∷ es) = let rest = used_most es in let one = weigh_most e in omega arith
+
   pub used_all : (es : List (MapEntry K V)) → ((i : ℕ) → i < length es → weigh (entry_at es i) ≡ 1) → used es ≡ length es
   unfolding used
   used_all [] all = refl

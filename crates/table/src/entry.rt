@@ -1,5 +1,5 @@
 // The entries of a map and the keys that it takes; nothing here reads or writes a map.
-ghost use Rattle.std.specs.Prelude.{◌≡◌, ℕ, Decides};
+ghost use Rattle.std.specs.Prelude.{◌≡◌, ℕ, MatchBool, ◌≢◌};
 ghost use Rattle.table.specs.Search.{hit_of};
 
 // One place of a map: free, or used by a key with its value.
@@ -39,15 +39,16 @@ impl<V> Scan<V> {
     }
 }
 
-// What a map asks of a key: `==` tells whether two keys are one value, and the hash is a function of the value, so that
-// equal keys hash alike.
-pub trait Key: Eq {
+// What a map asks of a key: `same` decides whether two keys are one value, and the hash is a function of the value, so
+// that equal keys hash alike.
+pub trait Key {
     ghost hashes: { Self → ℕ };
+
+    // Whether the two keys are the same value.
+    fn same(&self, other: &Self) -> bool
+        ensures { MatchBool result (self.now ≡ other.now) (self.now ≢ other.now) };
 
     // The key's hash; a search starts at its remainder by the number of entries.
     fn hash(&self) -> usize
         ensures { result ≡ hashes self.now };
-
-    // Equal keys are one value.
-    ghost same: { (a b : Self) → Decides (Self.eq a b) (a ≡ b) };
 }

@@ -66,5 +66,5 @@ fn find<K: Key + Copy, V: Copy>(entries: &[Entry<K, V>], key: K) -> Scan<V>
         return Scan::Through;
     }
     let home = key.hash() % n;
-    walk(entries, home, home, |_, k| k == key)
+    walk(entries, home, home, |_, k| k.same(&key))
 }

@@ -1,5 +1,4 @@
 use Rattle.linked_list.proofs.Relinks.{relinked}
-use Rattle.linked_list.proofs.Same.{told}
 use Rattle.linked_list.proofs.Sounds.{inserted}
 use Rattle.linked_list.proofs.Spots.{spot_held, before_live, after_live, held_on}
 use Rattle.linked_list.proofs.edits.insert.Goals as goal
@@ -30,5 +29,5 @@ returns g c =
     let m = g.met.N.LinkedList in
     let rel = relinked v _ _ _ _ _ a.c a.n _ _ _ _ _ _ _
     c.set_forward.ensures.sets c.set_backward.ensures.sets c.set_prev.ensures.sets c.set_next.ensures.sets c.set_container.ensures.sets in
-    let done = inserted m.containers v _ a.n a.c (told m.eq_decides) _ _ r.sound r.node a.spot r.spot r.into r.loose c.at-gap.ensures.before c.at-gap.ensures.after rel in
+    let done = inserted m.containers v _ a.n a.c m.nodes _ _ r.sound r.node a.spot r.spot r.into r.loose c.at-gap.ensures.before c.at-gap.ensures.after rel in
     record { inserts = done.0; sound = done.1; rest = cc }

@@ -7,5 +7,5 @@ returns-then-n-eq0 g c = searched_none _ _ c.if-n-eq0.true
 
 pub returns : goal.returns
 returns g c =
-    searched g.K.Key.hashes c.args.entries.now c.args.key _ (λ i no. let s = g.met.K.Key.same c.args.key c.args.key in search rules) _ _ _ (ap (λ (m : ℕ). m % length c.args.entries.now) c.hash.ensures)
-    (λ i q yes. let s = g.met.K.Key.same q c.args.key in search rules) c.walk.ensures
+    searched g.K.Key.hashes c.args.entries.now c.args.key _ (λ i no. search rules) _ _ _ (ap (λ (m : ℕ). m % length c.args.entries.now) c.hash.ensures)
+    (λ i q yes. search rules) c.walk.ensures
