@@ -18,10 +18,14 @@ fn looks(entries: &[Entry<Pair, u32>], key: Pair) -> u32
     }
     let (front, back) = entries.split_at(key.hash() % n);
     back.iter()
-        .chain(front)
-        .take(512)
         .position(|e| e.is_none())
-        .map_or(512, |passed| passed as u32 + 1)
+        .or_else(|| {
+            front
+                .iter()
+                .position(|e| e.is_none())
+                .map(|passed| back.len().saturating_add(passed))
+        })
+        .map_or(512, |passed| passed.min(511) as u32 + 1)
 }
 
 // The looks of 10,000 absent keys in all: `source` makes pairs that no entry has.
